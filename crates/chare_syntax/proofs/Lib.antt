@@ -1,0 +1,16 @@
+pub mod Skips
+pub mod Ends
+pub mod Steps
+pub mod Laws
+pub mod Both
+pub mod One
+pub mod Many
+pub mod Loops
+pub mod Sums
+pub mod Levels
+pub mod Jobs
+pub mod Accepts
+pub mod Grows
+pub mod Texts
+pub mod Deeper
+pub mod Places

@@ -1,0 +1,9 @@
+pub mod Mark
+pub mod Spelling
+pub mod Depth
+pub mod Words
+pub mod Tokens
+pub mod Fault
+pub mod Reading
+pub mod Accepted
+pub mod Text

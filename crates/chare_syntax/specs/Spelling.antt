@@ -1,0 +1,83 @@
+-- The tokens that a tree is spelled by: the grammar of the job language.
+use Rattle.std.specs.Prelude.{List, [], ◌∷◌, ◌++◌}
+use Rattle.std.specs.List.{flat_map}
+use Rattle.chare_base.specs.declared.expression.AddOp.{AddOp}
+use Rattle.chare_base.specs.declared.expression.AddOp.TheVariants as adds
+use Rattle.chare_base.specs.declared.expression.MulOp.{MulOp}
+use Rattle.chare_base.specs.declared.expression.MulOp.TheVariants as muls
+use Rattle.chare_syntax.specs.declared.token.Kind.{Kind}
+use Rattle.chare_syntax.specs.declared.token.Kind.TheVariants.{Name, Number, Mark}
+use Rattle.chare_syntax.specs.declared.token.Mark.TheVariants as marks
+use Rattle.chare_syntax.specs.declared.tree.AnswerDecl.{AnswerDecl}
+use Rattle.chare_syntax.specs.declared.tree.AnswerDecl.TheVariants as answers
+use Rattle.chare_syntax.specs.declared.tree.ArrayDecl.{ArrayDecl}
+use Rattle.chare_syntax.specs.declared.tree.Job.{Job}
+use Rattle.chare_syntax.specs.declared.tree.StateDecl.{StateDecl}
+use Rattle.chare_syntax.specs.declared.tree.StepDecl.{StepDecl}
+use Rattle.chare_syntax.specs.declared.tree.StepDecl.TheVariants as steps
+use Rattle.chare_syntax.specs.declared.tree.StmtDecl.{StmtDecl}
+use Rattle.chare_syntax.specs.declared.tree.StmtDecl.TheVariants as stmts
+use Rattle.chare_syntax.specs.declared.tree.Sum.{Sum}
+use Rattle.chare_syntax.specs.declared.tree.Atom.TheOpen.{Atom-F, Product-F, ProductTerm-F, Sum-F, SumTerm-F, Unary-F}
+use Rattle.chare_syntax.specs.declared.tree.Atom.TheFolds.{fold-Sum}
+
+abbrev pub Kinds : Type 0
+Kinds = List Kind
+
+abbrev pub add_mark : AddOp → Kind
+add_mark adds.Plus = Mark marks.Plus
+add_mark adds.Minus = Mark marks.Minus
+
+abbrev pub mul_mark : MulOp → Kind
+mul_mark muls.Times = Mark marks.Times
+
+-- one after another
+abbrev pub joined : List Kinds → Kinds
+joined [] = []
+joined (k ∷ more) = k ++ joined more
+
+abbrev pub atom_step : Atom-F Kinds Kinds Kinds Kinds Kinds Kinds → Kinds
+atom_step (Atom-F.Number n) = Number n ∷ []
+atom_step (Atom-F.Name span) = Name span ∷ []
+atom_step Atom-F.Index = Mark marks.Index ∷ []
+atom_step (Atom-F.Group e) = Mark marks.OpenParen ∷ (e ++ Mark marks.CloseParen ∷ [])
+
+abbrev pub unary_step : Unary-F Kinds Kinds Kinds Kinds Kinds Kinds → Kinds
+unary_step (Unary-F.Minus e) = Mark marks.Minus ∷ e
+unary_step (Unary-F.Atom a) = a
+
+abbrev pub product_step : Product-F Kinds Kinds Kinds Kinds Kinds Kinds → Kinds
+product_step p = p.first ++ joined p.others
+
+abbrev pub product_term_step : ProductTerm-F Kinds Kinds Kinds Kinds Kinds Kinds → Kinds
+product_term_step t = mul_mark t.op ∷ t.value
+
+abbrev pub sum_step : Sum-F Kinds Kinds Kinds Kinds Kinds Kinds → Kinds
+sum_step s = s.first ++ joined s.others
+
+abbrev pub sum_term_step : SumTerm-F Kinds Kinds Kinds Kinds Kinds Kinds → Kinds
+sum_term_step t = add_mark t.op ∷ t.value
+
+abbrev pub sum_spelling : Sum → Kinds
+sum_spelling = fold-Sum Kinds Kinds Kinds Kinds Kinds Kinds atom_step unary_step product_step product_term_step sum_step sum_term_step
+
+abbrev pub state_spelling : StateDecl → Kinds
+state_spelling s = Mark marks.State ∷ Name s.name ∷ Mark marks.Colon ∷ Mark marks.Int ∷ Mark marks.Assign ∷ sum_spelling s.start
+
+abbrev pub stmt_spelling : StmtDecl → Kinds
+stmt_spelling (stmts.Assign target value) = Name target ∷ Mark marks.Assign ∷ sum_spelling value
+
+abbrev pub step_spelling : StepDecl → Kinds
+step_spelling (steps.Block block) = Mark marks.Step ∷ Mark marks.OpenBrace ∷ (flat_map stmt_spelling block ++ Mark marks.CloseBrace ∷ [])
+
+abbrev pub array_spelling : ArrayDecl → Kinds
+array_spelling a =
+    Mark marks.Array ∷ Name a.name ∷ Mark marks.OpenBracket ∷ Number a.size ∷ Mark marks.CloseBracket ∷ Mark marks.OpenBrace
+    ∷ (flat_map state_spelling a.states ++ (flat_map step_spelling a.steps ++ Mark marks.CloseBrace ∷ []))
+
+abbrev pub answer_spelling : AnswerDecl → Kinds
+answer_spelling (answers.Sum array state) = Mark marks.Answer ∷ Mark marks.Sum ∷ Name array ∷ Mark marks.Dot ∷ Name state ∷ []
+
+abbrev pub job_spelling : Job → Kinds
+job_spelling j =
+    Mark marks.Job ∷ Name j.name ∷ Mark marks.Iterate ∷ Number j.iterations ∷ (array_spelling j.array ++ flat_map answer_spelling j.answers)

@@ -1,0 +1,109 @@
+//! The tree of a job's text: a struct or an enum for each rule of the grammar.
+
+use crate::token::{Num, Span};
+use chare_base::bytes::Bytes;
+use chare_base::expression::{AddOp, MulOp};
+use sqlite_items::{Boxed, Items};
+
+/// A text and its tree. Places in the tree are places in the text.
+#[derive(Drop)]
+pub struct Ast {
+    pub text: Bytes,
+    pub job: Job,
+}
+
+/// `job NAME iterate NUM array answer..`, with at least one answer.
+#[derive(Drop)]
+pub struct Job {
+    pub name: Span,
+    pub iterations: Num,
+    pub array: ArrayDecl,
+    pub answers: Items<AnswerDecl>,
+}
+
+/// `array NAME [ NUM ] { state.. step.. }`, with at least one of each.
+#[derive(Drop)]
+pub struct ArrayDecl {
+    pub name: Span,
+    pub size: Num,
+    pub states: Items<StateDecl>,
+    pub steps: Items<StepDecl>,
+}
+
+/// `state NAME : int = sum`.
+#[derive(Drop)]
+pub struct StateDecl {
+    pub name: Span,
+    pub start: Sum,
+}
+
+/// `step { statement.. }`.
+#[derive(Drop)]
+pub enum StepDecl {
+    Block(Items<StmtDecl>),
+}
+
+/// A statement of a block.
+#[derive(Drop)]
+pub enum StmtDecl {
+    /// `NAME = sum`.
+    Assign { target: Span, value: Sum },
+}
+
+/// A line of what the job answers.
+#[derive(Clone, Copy, Debug, PartialEq, Eq)]
+pub enum AnswerDecl {
+    /// `answer sum ARRAY . STATE`.
+    Sum { array: Span, state: Span },
+}
+
+/// Products joined by `+` and `-`, read from the left.
+#[cycle(tree)]
+#[derive(Drop)]
+pub struct Sum {
+    pub first: Product,
+    pub others: Items<SumTerm>,
+}
+
+/// A product behind `+` or `-`.
+#[cycle(tree)]
+#[derive(Drop)]
+pub struct SumTerm {
+    pub op: AddOp,
+    pub value: Product,
+}
+
+/// Unaries joined by `*`, read from the left.
+#[cycle(tree)]
+#[derive(Drop)]
+pub struct Product {
+    pub first: Unary,
+    pub others: Items<ProductTerm>,
+}
+
+/// A unary behind `*`.
+#[cycle(tree)]
+#[derive(Drop)]
+pub struct ProductTerm {
+    pub op: MulOp,
+    pub value: Unary,
+}
+
+/// `- unary`, or an atom.
+#[cycle(tree)]
+#[derive(Drop)]
+pub enum Unary {
+    Minus(Boxed<Unary>),
+    Atom(Atom),
+}
+
+/// The least expressions.
+#[cycle(tree)]
+#[derive(Drop)]
+pub enum Atom {
+    Number(Num),
+    Name(Span),
+    Index,
+    /// `( sum )`.
+    Group(Boxed<Sum>),
+}
