@@ -1,0 +1,4 @@
+pub mod Gathered
+pub mod Operands
+pub mod Sealing
+pub mod Texts

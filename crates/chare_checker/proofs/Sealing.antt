@@ -1,0 +1,77 @@
+-- A tree's plan, by its parts.
+use Rattle.std.proofs.Common.{◌≡◌, ℕ, Bool, true, false, cond, List, [], ◌∷◌, ◌++◌, length, map, refl, ap, sym, ◌∙◌, Option, Some, None}
+use Rattle.std.specs.Prelude.{◌&&◌, IsTrue}
+use Rattle.chare_base.specs.declared.plan.Answer.{Answer}
+use Rattle.chare_base.specs.declared.plan.Array.{Array}
+use Rattle.chare_base.specs.declared.plan.State.{State}
+use Rattle.chare_base.specs.declared.plan.Step.{Step}
+use Rattle.chare_base.specs.Elements.{Parts}
+use Rattle.chare_base.specs.Limits.{limits_hold}
+use Rattle.chare_base.specs.Names.{names_hold}
+use Rattle.chare_base.specs.Ranges.{ranges_hold}
+use Rattle.chare_syntax.specs.declared.tree.ArrayDecl.{ArrayDecl}
+use Rattle.chare_syntax.specs.declared.tree.Job.{Job}
+use Rattle.chare_checker.specs.Names.{bytes_at}
+use Rattle.chare_checker.specs.Options.{◌>>=◌, all_some}
+use Rattle.chare_checker.specs.Planned.{answer_planned, array_planned, bounded, job_planned, planned, sealed, state_planned, step_planned}
+
+abbrev array : List ℕ → ℕ → List State → List Step → Array
+array name cols states steps = record { name = name; cols = cols; states = states; steps = steps }
+
+-- an array's plan, by its parts
+pub array_is : (text : List ℕ) (a : ArrayDecl) (cols count : ℕ) (name : List ℕ) (states : List State) (steps : List Step) →
+    bounded 1 4096 a.size.value ≡ Some cols → bounded 1 16 (length a.states) ≡ Some count → all_some (map (state_planned text) a.states) ≡ Some states →
+    all_some (map (step_planned text a.states) a.steps) ≡ Some steps → name ≡ bytes_at text a.name → array_planned text a ≡ Some (record { name = name; cols = cols; states = states; steps = steps })
+array_is text a cols count name states steps c n s t named =
+    ap (λ o. o >>= λ x. bounded 1 16 (length a.states) >>= λ y. all_some (map (state_planned text) a.states) >>= λ z. all_some (map (step_planned text a.states) a.steps) >>= λ w. Some (array (bytes_at text a.name) x z w)) c
+    ∙ ap (λ o. o >>= λ (y : ℕ). all_some (map (state_planned text) a.states) >>= λ z. all_some (map (step_planned text a.states) a.steps) >>= λ w. Some (array (bytes_at text a.name) cols z w)) n
+    ∙ ap (λ o. o >>= λ z. all_some (map (step_planned text a.states) a.steps) >>= λ w. Some (array (bytes_at text a.name) cols z w)) s
+    ∙ ap (λ o. o >>= λ w. Some (array (bytes_at text a.name) cols states w)) t
+    ∙ ap (λ m. Some (array m cols states steps)) (sym named)
+
+abbrev Three : Bool → Bool → Bool → Type 0
+Three a b c = IsTrue a × IsTrue b × IsTrue c
+
+all_true : (a b c : Bool) (x : Parts) → Three a b c → cond (a && b && c) (Some x) None ≡ Some x
+all_true true true true x h = refl
+all_true true true false x h = absurd (let e : false ≡ true = h.2 in cc)
+all_true true false c x h = absurd (let e : false ≡ true = h.1 in cc)
+all_true false b c x h = absurd (let e : false ≡ true = h.0 in cc)
+
+abbrev nothing : Option Parts
+nothing = None
+
+not_all : (a b c : Bool) (x : Parts) → (Three a b c → ⊥) → cond (a && b && c) (Some x) None ≡ nothing
+not_all true true true x h = absurd (h (refl, refl, refl))
+not_all true true false x h = refl
+not_all true false c x h = refl
+not_all false b c x h = refl
+
+module _ (text : List ℕ) (job : Job) (name : List ℕ) (array : Array) (arrays : List Array) (answers : List Answer)
+    (has_array : array_planned text job.array ≡ Some array) (has_answers : all_some (map (answer_planned text job.array) job.answers) ≡ Some answers)
+    (named : name ≡ bytes_at text job.name) (one : arrays ≡ [] ++ array ∷ []) where
+  abbrev parts : Parts
+  parts = record { name = name; iterations = job.iterations.value; arrays = arrays; answers = answers }
+
+  abbrev made : List ℕ → List Array → List Answer → Parts
+  made n xs ans = record { name = n; iterations = job.iterations.value; arrays = xs; answers = ans }
+
+  parts_are : job_planned text job ≡ Some parts
+  parts_are =
+      ap (λ o. o >>= λ a. all_some (map (answer_planned text job.array) job.answers) >>= λ ans. Some (made (bytes_at text job.name) (a ∷ []) ans)) has_array
+      ∙ ap (λ o. o >>= λ ans. Some (made (bytes_at text job.name) (array ∷ []) ans)) has_answers
+      ∙ ap (λ n. Some (made n (array ∷ []) answers)) (sym named)
+      ∙ ap (λ xs. Some (made name xs answers)) (sym one)
+
+  abbrev Rules : Type 0
+  Rules = Three (limits_hold name job.iterations.value arrays answers) (ranges_hold arrays answers) (names_hold arrays)
+
+  pub planned_some : Rules → planned text job ≡ Some parts
+  unfolding planned
+  planned_some h =
+      ap (λ o. o >>= sealed) parts_are ∙ all_true (limits_hold name job.iterations.value arrays answers) (ranges_hold arrays answers) (names_hold arrays) parts h
+
+  pub planned_none : (Rules → ⊥) → planned text job ≡ None
+  unfolding planned
+  planned_none h =
+      ap (λ o. o >>= sealed) parts_are ∙ not_all (limits_hold name job.iterations.value arrays answers) (ranges_hold arrays answers) (names_hold arrays) parts h
