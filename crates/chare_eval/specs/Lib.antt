@@ -1,0 +1,6 @@
+pub mod Value
+pub mod Block
+pub mod Opening
+pub mod Stage
+pub mod Fold
+pub mod Laws
