@@ -1,0 +1,25 @@
+//! Whether two checkpoints are one.
+
+ghost use Rattle.std.specs.Prelude.{◌≡◌, ◌↔◌};
+
+use chare_base::bytes::Bytes;
+
+/// What the comparison of two checkpoints says.
+#[derive(Clone, Copy, Debug, PartialEq, Eq)]
+pub enum Verdict {
+    /// They are one, byte for byte.
+    Equal,
+    /// Some byte or the length differs.
+    Differ,
+}
+
+/// Compares two checkpoints byte for byte, which takes no memory.
+pub fn compare(a: &Bytes, b: &Bytes) -> Verdict
+    ensures { (result ≡ Verdict.Equal) ↔ (a.now ≡ b.now) }
+{
+    if a.as_slice() == b.as_slice() {
+        Verdict::Equal
+    } else {
+        Verdict::Differ
+    }
+}
