@@ -1,0 +1,3 @@
+pub mod FaultFree
+pub mod Sums
+pub mod Ends
