@@ -1,0 +1,3 @@
+pub mod Queue
+pub mod Refusal
+pub mod Laws

@@ -1,0 +1,16 @@
+//! The messages that one element holds until the step that takes them, whatever order they arrived in.
+//!
+//! A message is held under a key: the iteration it belongs to, and the port it was sent to. So a message of a
+//! later iteration may arrive first, and none is taken in another's place. A `RefQueue` is a finite map from keys
+//! to payloads with a number `now`: iterations before it are over, and a message of theirs is refused, as is a
+//! second one under a key that is held. Every call says the whole map that it leaves, in the words of
+//! `specs/Queue`; a refused message changes nothing. Putting, taking and looking are logarithmic in the keys
+//! held, and only putting takes memory.
+//!
+//! An element's object will hold its messages so. The program doesn't use this crate yet.
+#![tactic(auto)]
+
+pub mod fault;
+pub mod key;
+pub mod laws;
+pub mod queue;
