@@ -3,8 +3,7 @@
 # usage: bench/drill.sh [ITERATIONS]    (build the program first: `cd crates/acr && rt run </dev/null`)
 set -eu
 iterations=${1:-200}
-here=$(cd "$(dirname "$0")" && pwd)
-program=$here/../crates/acr/out/acr
+. "$(dirname "$0")/compare.sh"
 work=$(mktemp -d)
 trap 'rm -rf "$work"' EXIT
 
@@ -38,11 +37,4 @@ int main(int count, char **words) {
   printf("answer sum A.s0 %" PRId64 "\nanswer sum A.s7 %" PRId64 "\n", (int64_t)first, (int64_t)last);
 }
 C
-cc -O2 -o "$work/bench" "$work/bench.c"
-
-seconds() { local start end; start=$(date +%s.%N); "$@" >"$work/out" ; end=$(date +%s.%N); echo "$end - $start" | bc; }
-ours=$(seconds "$program" drill <"$work/bench.job"); grep '^answer' "$work/out" >"$work/ours"
-plain=$(seconds "$work/bench" "$iterations"); cp "$work/out" "$work/plain"
-cmp "$work/ours" "$work/plain" && echo "answers agree"
-echo "element-iterations per second, both replicas: $(echo "2 * 4096 * $iterations / $ours" | bc)"
-echo "seconds: acr $ours, C $plain, ratio $(echo "scale=1; $ours / $plain" | bc)"
+compare bench "$iterations" "$work" element-iterations

@@ -7,7 +7,7 @@ use chare_base::bytes::Bytes;
 use chare_base::memory::Memory;
 use chare_base::options::Options;
 use chare_base::plan::Plan;
-use chare_eval::plain::plain_run;
+use object_steps::plain::plain_run;
 use pup_state::compare::{Verdict, compare};
 use pup_state::pack::pack_all;
 use run_ledger::laws::accept_then_done_is_lawful;

@@ -154,6 +154,201 @@ fn expressions_bind_and_associate(rt: HostRuntime) -> Result<(), Fail> {
     Ok(())
 }
 
+#[test]
+fn three_elements_send_round_a_ring(rt: HostRuntime) -> Result<(), Fail> {
+    let served = drilled(
+        rt.alloc(),
+        "job ring
+iterate 2
+array A[3] {
+  state t: int = index
+  entry left from A[-1] wrap
+  step { send A.left(t) }
+  step when left(x) { t = t + x }
+}
+answer sum A.t",
+    )?;
+    let due = "job ring nodes 1 every 10 spares 0 mode strong
+accepted 2 bytes 116 sha256 db4219fd495505fe60a91fe2a995c3713915d73ed8ee73624108c93c62b06f76 strikes 0 0
+answer sum A.t 12
+slips 0
+end done
+";
+    assert_eq!(rt; served.status, Status::Done);
+    assert_eq!(rt;
+        str::from_utf8(served.given.as_slice()).ok().ok_or("text")?,
+        due
+    );
+    Ok(())
+}
+
+// Iterations, elements, the array's declarations behind `state t: int = index`, and the answer over t.
+const MESSAGES: [(u32, u32, &str, &str); 7] = [
+    // an edge gives its number in each iteration
+    (
+        2,
+        1,
+        "entry left from A[-1] else 7 step { send A.left(t) } step when left(x) { t = t + x }",
+        "14",
+    ),
+    // nobody stands so far across: all sends go to nobody
+    (
+        3,
+        2,
+        "entry e from A[8] else 3 step { send A.e(1) } step when e(x) { t = t + x }",
+        "19",
+    ),
+    // eight values, each at its place
+    (
+        1,
+        2,
+        "entry e(8) from A[1] wrap
+         step { t = t + 1 send A.e(t, 2, 3, 4, 5, 6, 7, t * 10) }
+         step when e(a, b, c, d, f, g, h, i) { t = a + b * 2 + c * 3 + d * 4 + f * 5 + g * 6 + h * 7 + i }",
+        "311",
+    ),
+    // 8 to the left of 0 in a ring of three is 1, and 8 to its right is 2
+    (
+        1,
+        3,
+        "state u: int = 0 entry l from A[-8] wrap entry r from A[8] wrap
+         step { send A.l(t) send A.r(t) }
+         step when l(x) { u = x * 100 }
+         step when r(x) { t = (u + x * 10) * (index + 1) }",
+        "550",
+    ),
+    // each end has an edge of its own
+    (
+        1,
+        3,
+        "state u: int = 0 entry l from A[-1] else 100 entry r from A[1] else -100
+         step { send A.l(t) send A.r(t) }
+         step when l(x) { u = x }
+         step when r(x) { t = (u + x) * (index + 1) }",
+        "-192",
+    ),
+    // what is sent is worth what it is there: before the assignment, and behind it
+    (
+        1,
+        2,
+        "state u: int = 0 entry a from A[-1] wrap entry b from A[-1] wrap
+         step { send A.a(t) t = t + 5 send A.b(t) }
+         step when a(x) { u = x }
+         step when b(x) { t = u * 100 + x }",
+        "111",
+    ),
+    // a message may wait for several steps, and another be sent from the block of one
+    (
+        1,
+        2,
+        "entry a from A[1] wrap entry b from A[1] wrap
+         step { send A.a(t + 1) t = 0 }
+         step { }
+         step when a(x) { send A.b(x * 10) t = x }
+         step when b(x) { t = t * 100 + x }",
+        "330",
+    ),
+];
+
+#[test]
+fn messages_come_from_their_sources(rt: HostRuntime) -> Result<(), Fail> {
+    let alloc = rt.alloc();
+    for (iterations, size, body, value) in MESSAGES {
+        let text = format!(in alloc;
+            "job j iterate {iterations} array A[{size}] {{ state t: int = index {body} }} answer sum A.t"
+        )?;
+        let due = format!(in alloc; "answer sum A.t {value}")?;
+        let served = drilled(alloc, text.as_str())?;
+        let report = str::from_utf8(served.given.as_slice()).ok().ok_or("text")?;
+        assert_eq!(rt; report.lines().nth(2), Some(due.as_str()), "{body}");
+    }
+    Ok(())
+}
+
+// An array's declarations behind `state t: int = 0`.
+const BROKEN: [&str; 37] = [
+    // sent twice, never, or in the step that receives it
+    "entry e from A[1] wrap step { send A.e(t) send A.e(t) } step when e(x) { t = x }",
+    "entry e from A[1] wrap step { send A.e(t) } step { send A.e(t) } step when e(x) { t = x }",
+    "entry e from A[1] wrap step { t = 1 } step when e(x) { t = x }",
+    "entry e from A[1] wrap step { t = 1 } step when e(x) { send A.e(t) }",
+    "entry e from A[1] wrap step { } step when e(x) { } step { send A.e(t) }",
+    // received twice, or never
+    "entry e from A[1] wrap step { send A.e(t) } step when e(x) { } step when e(x) { }",
+    "entry e from A[1] wrap step { send A.e(t) }",
+    // another number of values
+    "entry e from A[1] wrap step { send A.e(t, t) } step when e(x) { }",
+    "entry e(2) from A[1] wrap step { send A.e(t) } step when e(x, y) { }",
+    "entry e(2) from A[1] wrap step { send A.e(t, t) } step when e(x) { }",
+    "entry e(0) from A[1] wrap step { send A.e(t) } step when e(x) { }",
+    "entry e(9) from A[1] wrap step { send A.e(1,2,3,4,5,6,7,8,9) } step when e(a,b,c,d,f,g,h,i,j) { }",
+    // offsets, edges and arrays
+    "entry e from A[9] wrap step { send A.e(t) } step when e(x) { }",
+    "entry e from A[-9] wrap step { send A.e(t) } step when e(x) { }",
+    "entry e from A[1] else 9223372036854775808 step { send A.e(t) } step when e(x) { }",
+    "entry e from A[1] step { send A.e(t) } step when e(x) { }",
+    "entry e from B[1] wrap step { send A.e(t) } step when e(x) { }",
+    "entry e from A[1] wrap step { send B.e(t) } step when e(x) { }",
+    "entry e from A[1] wrap step { send A.f(t) } step when e(x) { }",
+    "entry e from A[1] wrap step { send A.e(t) } step when f(x) { }",
+    "entry e from A[1] wrap step { send A.t(t) send A.e(t) } step when e(x) { }",
+    // parameters and names
+    "entry e from A[1] wrap step { send A.e(t) } step when e(x) { x = 1 }",
+    "entry e from A[1] wrap step { send A.e(t) } step when e(t) { }",
+    "entry e from A[1] wrap step { send A.e(t) } step when e(e) { }",
+    "entry e(2) from A[1] wrap step { send A.e(t, t) } step when e(x, x) { }",
+    "entry e from A[1] wrap step { send A.e(t) } step when e(x) { t = y }",
+    "entry e from A[1] wrap step { send A.e(t) } step when e(x) { } step { t = x }",
+    "entry e from A[1] wrap step { send A.e(t) } step when e(x) { e = 1 }",
+    "entry e from A[1] wrap step { send A.e(e) } step when e(x) { }",
+    "entry t from A[1] wrap step { send A.t(1) } step when t(x) { }",
+    "entry e from A[1] wrap entry e from A[1] wrap step { send A.e(t) } step when e(x) { }",
+    "entry e from A[1] wrap step { send A.e(t) } step when e(nnnnnnnnnnnnnnnnnnnnnnnnnnnnnnnnn) { }",
+    // the grammar
+    "entry e from A[1] wrap step { send A.e() } step when e(x) { }",
+    "entry e from A[1] wrap step { send A.e(t) } step when e() { }",
+    "entry e from A[1] wrap step { send A.e(t,) } step when e(x) { }",
+    "entry e from A[- -1] wrap step { send A.e(t) } step when e(x) { }",
+    "step { } entry e from A[1] wrap step { send A.e(t) } step when e(x) { }",
+];
+
+#[test]
+fn entries_that_break_a_rule_are_refused(rt: HostRuntime) -> Result<(), Fail> {
+    let alloc = rt.alloc();
+    for body in BROKEN {
+        let text = format!(in alloc;
+            "job j iterate 1 array A[2] {{ state t: int = 0 {body} }} answer sum A.t"
+        )?;
+        let served = drilled(alloc, text.as_str())?;
+        assert_eq!(rt; served.status, Status::Job, "{body}");
+    }
+    Ok(())
+}
+
+#[test]
+fn an_array_has_at_most_16_entries(rt: HostRuntime) -> Result<(), Fail> {
+    let alloc = rt.alloc();
+    for (count, holds) in [(16, true), (17, false)] {
+        let mut entries = String::new(alloc);
+        let mut sends = String::new(alloc);
+        let mut whens = String::new(alloc);
+        for number in 0..count {
+            entries.push_str(format!(in alloc; "entry e{number} from A[1] wrap ")?.as_str())?;
+            sends.push_str(format!(in alloc; "send A.e{number}(t) ")?.as_str())?;
+            whens.push_str(format!(in alloc; "step when e{number}(x) {{ }} ")?.as_str())?;
+        }
+        let text = format!(in alloc;
+            "job j iterate 1 array A[2] {{ state t: int = 0 {entries} step {{ {sends} }} {whens} }} answer sum A.t"
+        )?;
+        if holds {
+            assert_accepted(&rt, alloc, text.as_bytes())?;
+        } else {
+            assert_refused(&rt, alloc, text.as_bytes())?;
+        }
+    }
+    Ok(())
+}
+
 // A piece so many times in a row.
 fn repeated(alloc: Global, piece: &str, count: usize) -> Result<String, Fail> {
     let mut text = String::new(alloc);

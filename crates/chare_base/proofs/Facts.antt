@@ -1,5 +1,5 @@
 -- What the rules of a plan say at one place.
-use Rattle.std.proofs.Common.{◌≡◌, ℕ, zero, suc, ◌+◌, ◌-◌, ◌<◌, ◌≤◌, Bool, true, false, cond, List, [], ◌∷◌, length, get_or, arith, Some, refl, ap, sym, ◌∙◌, subst, inl, inr}
+use Rattle.std.proofs.Common.{◌≡◌, ℕ, zero, suc, ◌+◌, ◌-◌, ◌<◌, ◌≤◌, Bool, true, false, cond, List, [], ◌∷◌, length, get_or, arith, Option, Some, None, refl, ap, sym, ◌∙◌, subst, inl, inr}
 use Rattle.std.specs.Prelude.{IsTrue, ◌&&◌, slice_get, nat_lt, nat_le}
 use Rattle.std.specs.List.{list_all}
 use Rattle.std.specs.Option.{option_map_or}
@@ -8,10 +8,12 @@ use Rattle.std.proofs.lemmas.Bool.{leb-true}
 use Rattle.std.proofs.lemmas.Bool.Decides.{leb_tells}
 use Rattle.chare_base.specs.declared.plan.Array.{Array}
 use Rattle.chare_base.specs.declared.plan.Place.{Place}
+use Rattle.chare_base.specs.declared.message.Need.TheVariants as needs
+use Rattle.chare_base.specs.declared.plan.Part.{Part}
 use Rattle.chare_base.specs.declared.plan.Plan.{Plan}
 use Rattle.chare_base.specs.declared.plan.Step.{Step}
-use Rattle.chare_base.specs.Limits.{between, name_fits, state_fits, step_fits, array_fits, arrays_fit, elements_in, limits_hold}
-use Rattle.chare_base.specs.Elements.{most_steps, steps_in_round, elements, place_in, place_of, array_of, states_of, steps_of, parts_at}
+use Rattle.chare_base.specs.Limits.{between, name_fits, state_fits, step_fits, array_fits, arrays_fit, elements_in, entries_fit, limits_hold}
+use Rattle.chare_base.specs.Elements.{most_steps, steps_in_round, elements, place_in, place_of, array_of, states_of, steps_of, parts_at, need_at, block_at}
 
 -- both of two tests
 pub both_left : (a b : Bool) → IsTrue (a && b) → IsTrue a
@@ -28,22 +30,31 @@ each_at p [] i x h e = cc
 each_at p (y ∷ xs) zero x h e = let same : y ≡ x = cc in subst (λ z. IsTrue (p z)) same (both_left (p y) (list_all p xs) h)
 each_at p (y ∷ xs) (suc i) x h e = each_at p xs i x (both_right (p y) (list_all p xs) h) e
 
-within : (low high n : ℕ) → IsTrue (between low high n) → (low ≤ n) × (n ≤ high)
+pub within : (low high n : ℕ) → IsTrue (between low high n) → (low ≤ n) × (n ≤ high)
 within low high n h = (leb-true low n (both_left (nat_le low n) (nat_le n high) h), leb-true n high (both_right (nat_le low n) (nat_le n high) h))
+
+abbrev counts : Plan → Bool
+counts p = name_fits p.name && between 1 1000000 p.iterations
+
+-- the limits but those of entries
+first_limits : (p : Plan) → IsTrue (counts p && arrays_fit p.arrays && between 1 16 (length p.answers))
+unfolding limits_hold
+first_limits p = both_left (counts p && arrays_fit p.arrays && between 1 16 (length p.answers)) (entries_fit p.entries) p.limits
+
+pub entries_held : (p : Plan) → IsTrue (entries_fit p.entries)
+unfolding limits_hold
+entries_held p = both_right (counts p && arrays_fit p.arrays && between 1 16 (length p.answers)) (entries_fit p.entries) p.limits
+
+counts_held : (p : Plan) → IsTrue (counts p && arrays_fit p.arrays)
+counts_held p = both_left (counts p && arrays_fit p.arrays) (between 1 16 (length p.answers)) (first_limits p)
 
 -- the arrays are within their limits
 arrays_held : (p : Plan) → IsTrue (arrays_fit p.arrays)
-unfolding limits_hold
-arrays_held p =
-    both_right (name_fits p.name && between 1 1000000 p.iterations) (arrays_fit p.arrays)
-    (both_left (name_fits p.name && between 1 1000000 p.iterations && arrays_fit p.arrays) (between 1 16 (length p.answers)) p.limits)
+arrays_held p = both_right (counts p) (arrays_fit p.arrays) (counts_held p)
 
 iterations_within : (p : Plan) → (1 ≤ p.iterations) × (p.iterations ≤ 1000000)
-unfolding limits_hold
 iterations_within p =
-    within 1 1000000 p.iterations
-    (both_right (name_fits p.name) (between 1 1000000 p.iterations) (both_left (name_fits p.name && between 1 1000000 p.iterations) (arrays_fit p.arrays)
-    (both_left (name_fits p.name && between 1 1000000 p.iterations && arrays_fit p.arrays) (between 1 16 (length p.answers)) p.limits)))
+    within 1 1000000 p.iterations (both_right (name_fits p.name) (between 1 1000000 p.iterations) (both_left (counts p) (arrays_fit p.arrays) (counts_held p)))
 
 pub iterations_some : (p : Plan) → 1 ≤ p.iterations
 iterations_some p = (iterations_within p).0
@@ -59,7 +70,7 @@ arrays_counted p =
 pub arrays_few : (p : Plan) → length p.arrays ≤ 8
 arrays_few p = (arrays_counted p).1
 
-each_fits : (p : Plan) → IsTrue (list_all array_fits p.arrays)
+pub each_fits : (p : Plan) → IsTrue (list_all array_fits p.arrays)
 each_fits p =
     both_right (between 1 8 (length p.arrays)) (list_all array_fits p.arrays)
     (both_left (between 1 8 (length p.arrays) && list_all array_fits p.arrays) (nat_le (elements_in p.arrays) 4096) (arrays_held p))
@@ -142,7 +153,7 @@ module _ (p : Plan) (e : ℕ) (a : Array) (is : array_of p e ≡ Some a) where
       let there : s < length steps = omega (arith, ap length steps_are, ap length same) in
       let at : slice_get a.steps s ≡ Some step = ap (λ xs. slice_get xs s) (sym same) ∙ slice_get_read steps (length steps) s step refl there get in (
         ap (λ o. option_map_or (λ (x : Step). x.parts) (slice_get (option_map_or (λ x. x.steps) o []) s) []) is ∙ ap (λ o. option_map_or (λ (x : Step). x.parts) o []) at,
-        (within 1 8 (length step.parts) (each_at step_fits a.steps s step fits.each_step at)).1,
+        omega (arith, (within 1 1 (length step.parts) (each_at step_fits a.steps s step fits.each_step at)).1),
       )
 
 most_few : (arrays : List Array) → IsTrue (list_all array_fits arrays) → most_steps arrays ≤ 32
@@ -152,3 +163,38 @@ most_few (a ∷ more) all =
 
 pub most_steps_few : (p : Plan) → steps_in_round p ≤ 32
 most_steps_few p = most_few p.arrays (each_fits p)
+
+one_part_of : (p : Plan) (e s : ℕ) (o : Option Array) (q : Option Step) → array_of p e ≡ o → slice_get (steps_of p e) s ≡ q → s < length (steps_of p e) → length (option_map_or (λ (step : Step). step.parts) q []) ≡ 1
+one_part_of p e s None q is at h = absurd (omega (arith, ap (λ x. length (option_map_or (λ (a : Array). a.steps) x [])) is))
+one_part_of p e s (Some a) None is at h = absurd (there (steps_of p e) s at h)
+  where
+    there : (steps : List Step) (i : ℕ) → slice_get steps i ≡ None → i < length steps → ⊥
+    there [] i none below = omega arith
+    there (x ∷ more) zero none below = cc
+    there (x ∷ more) (suc i) none below = there more i none (omega arith)
+one_part_of p e s (Some a) (Some step) is at h =
+    let here : slice_get a.steps s ≡ Some step = ap (λ xs. slice_get xs s) (sym (steps_are p e a is)) ∙ at in
+    let one = within 1 1 (length step.parts) (each_at step_fits a.steps s step (fits p e a is).each_step here) in
+    omega (arith, one.0, one.1)
+
+-- a step has one part
+pub one_part : (p : Plan) (e s : ℕ) → s < length (steps_of p e) → length (parts_at p e s) ≡ 1
+one_part p e s h = one_part_of p e s (array_of p e) (slice_get (steps_of p e) s) refl refl h
+
+-- a part of a step, as it is found in the plan's lists
+module _ (p : Plan) (e s q : ℕ) (steps : List Step) (step : Step) (parts : List Part) (a : Array) (is : array_of p e ≡ Some a) (same : steps ≡ a.steps) (below : s < length (steps_of p e))
+    (at : step ≡ get_or steps s step) (same_parts : parts ≡ step.parts) where
+  parts_here : parts_at p e s ≡ parts
+  parts_here = (parts_few p e a is s steps step same below at).0 ∙ sym same_parts
+
+  pub part_below : q < length (parts_at p e s) → q < length parts
+  part_below h = omega (arith, ap length parts_here)
+
+  part_here : (part : Part) → q < length (parts_at p e s) → part ≡ get_or parts q part → slice_get (parts_at p e s) q ≡ Some part
+  part_here part h get = ap (λ xs. slice_get xs q) parts_here ∙ slice_get_read parts (length parts) q part refl (part_below h) get
+
+  pub need_here : (part : Part) → q < length (parts_at p e s) → part ≡ get_or parts q part → part.need ≡ need_at p e s q
+  need_here part h get = sym (ap (λ o. option_map_or (λ (x : Part). x.need) o needs.Nothing) (part_here part h get))
+
+  pub block_here : (part : Part) → q < length (parts_at p e s) → part ≡ get_or parts q part → part.block ≡ block_at p e s q
+  block_here part h get = sym (ap (λ o. option_map_or (λ (x : Part). x.block) o []) (part_here part h get))

@@ -1,1 +1,4 @@
 pub mod Facts
+pub mod Exchanges
+pub mod Neighbours
+pub mod Sendings

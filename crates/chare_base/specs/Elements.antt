@@ -1,8 +1,11 @@
 -- The elements of a plan, in element order.
 use Rattle.std.specs.Prelude.{ℕ, suc, ◌-◌, if◌then◌else◌, nat_lt, List, [], ◌∷◌, length, Option, slice_get, max}
 use Rattle.std.specs.Option.{option_map_or}
+use Rattle.chare_base.specs.declared.message.Need.{Need}
+use Rattle.chare_base.specs.declared.message.Need.TheVariants as needs
 use Rattle.chare_base.specs.declared.plan.Array.{Array}
 use Rattle.chare_base.specs.declared.plan.Answer.{Answer}
+use Rattle.chare_base.specs.declared.plan.Entry.{Entry}
 use Rattle.chare_base.specs.declared.plan.Place.{Place}
 use Rattle.chare_base.specs.declared.plan.Plan.{Plan}
 use Rattle.chare_base.specs.declared.plan.State.{State}
@@ -16,10 +19,11 @@ pub record Parts : Type 0 where
   pub name : List ℕ
   pub iterations : ℕ
   pub arrays : List Array
+  pub entries : List Entry
   pub answers : List Answer
 
 abbrev pub parts_of : Plan → Parts
-parts_of p = record { name = p.name; iterations = p.iterations; arrays = p.arrays; answers = p.answers }
+parts_of p = record { name = p.name; iterations = p.iterations; arrays = p.arrays; entries = p.entries; answers = p.answers }
 
 abbrev pub elements : Plan → ℕ
 elements p = elements_in p.arrays
@@ -47,6 +51,10 @@ parts_at p e s = option_map_or (λ (step : Step). step.parts) (slice_get (steps_
 
 abbrev pub block_at : Plan → ℕ → ℕ → ℕ → List Stmt
 block_at p e s q = option_map_or (λ (part : Part). part.block) (slice_get (parts_at p e s) q) []
+
+-- what a part of an element's step needs
+abbrev pub need_at : Plan → ℕ → ℕ → ℕ → Need
+need_at p e s q = option_map_or (λ (part : Part). part.need) (slice_get (parts_at p e s) q) needs.Nothing
 
 -- the greatest number of steps of an array
 abbrev pub most_steps : List Array → ℕ

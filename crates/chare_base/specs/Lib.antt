@@ -1,6 +1,9 @@
 pub mod Limits
 pub mod Ranges
 pub mod Names
+pub mod Ports
 pub mod Elements
+pub mod Entries
+pub mod Laws
 pub mod Flip
 pub mod Shape

@@ -1,8 +1,10 @@
 -- Names that are declared once.
-use Rattle.std.specs.Prelude.{ℕ, Bool, true, not, ◌&&◌, List, [], ◌∷◌}
+use Rattle.std.specs.Prelude.{ℕ, ◌==◌, Bool, true, not, ◌&&◌, List, [], ◌∷◌, slice_get}
 use Rattle.std.specs.List.{list_any, list_all}
+use Rattle.std.specs.Option.{option_map_or}
 use Rattle.std.specs.Str.{bytes_eq}
 use Rattle.chare_base.specs.declared.plan.Array.{Array}
+use Rattle.chare_base.specs.declared.plan.Entry.{Entry}
 use Rattle.chare_base.specs.declared.plan.State.{State}
 
 -- no item has the name of another
@@ -16,5 +18,20 @@ array_name a = a.name
 abbrev pub state_name : State → List ℕ
 state_name s = s.name
 
-unfoldable pub names_hold : List Array → Bool
-names_hold arrays = distinct_by array_name arrays && list_all (λ a. distinct_by state_name a.states) arrays
+-- whether an entry has the name of one of these entries, of the same array
+abbrev pub entry_named : Entry → List Entry → Bool
+entry_named e entries = list_any (λ f. f.owner == e.owner && bytes_eq e.name f.name) entries
+
+-- no entry has the name of another of its array
+abbrev pub distinct_entries : List Entry → Bool
+distinct_entries [] = true
+distinct_entries (e ∷ more) = not (entry_named e more) && distinct_entries more
+
+-- whether an entry has the name of a state of its array
+abbrev pub named_as_state : List Array → Entry → Bool
+named_as_state arrays e = list_any (λ s. bytes_eq e.name (state_name s)) (option_map_or (λ a. a.states) (slice_get arrays e.owner) [])
+
+unfoldable pub names_hold : List Array → List Entry → Bool
+names_hold arrays entries =
+    distinct_by array_name arrays && list_all (λ a. distinct_by state_name a.states) arrays
+    && distinct_entries entries && list_all (λ e. not (named_as_state arrays e)) entries

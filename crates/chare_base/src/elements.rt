@@ -1,10 +1,20 @@
 //! A plan's elements: how many there are, where each stands, and what it holds and runs.
 
 ghost use Rattle.std.specs.Prelude.{◌≡◌, ◌<◌, ◌≤◌, length, slice_get, Some};
-ghost use Rattle.chare_base.specs.Elements.{elements, place_of, array_of, states_of, steps_of, parts_at, steps_in_round, most_steps};
+ghost use Rattle.chare_base.specs.Elements.{elements, place_of, array_of, states_of, steps_of, parts_at, need_at, block_at, steps_in_round, most_steps};
 
-use crate::plan::{Array, ElementId, Place, Plan};
+use crate::plan::{Array, ElementId, Part, Place, Plan, Spot};
 use crate::rules::elements_in;
+
+/// A part of an element's step, with what else of its array a run of it reads.
+#[derive(Clone, Copy)]
+pub struct Turn<'a> {
+    /// The element's index in its array.
+    pub index: u32,
+    /// How many steps the element runs in each iteration.
+    pub steps: u8,
+    pub part: &'a Part,
+}
 
 impl Plan {
     /// How many elements there are: from 1 to 4,096.
@@ -87,6 +97,39 @@ impl Plan {
     {
         let step = &self.array_of(e).steps.as_slice()[step as usize];
         step.parts.len() as u8
+    }
+
+    /// A part of an element's step, found once for all that a run of it reads.
+    #[tactic(auto, using(crate::proofs::Facts::steps_are, crate::proofs::Facts::steps_few))]
+    pub fn turn(&self, e: ElementId, spot: Spot) -> Turn<'_>
+        requires element { e.0 < elements self.now }
+        requires step { spot.step < length (steps_of self.now e.0) }
+        requires part { spot.part < length (parts_at self.now e.0 spot.step) }
+        ensures index { result.index ≡ (place_of self.now e.0).index }
+        ensures steps { result.steps ≡ length (steps_of self.now e.0) }
+        ensures few { result.steps ≤ 32 }
+        ensures need { result.part.now.need ≡ need_at self.now e.0 spot.step spot.part }
+        ensures block { result.part.now.block ≡ block_at self.now e.0 spot.step spot.part }
+    {
+        let (index, array) = self.stands(e);
+        let step = &array.steps.as_slice()[spot.step as usize];
+        Turn {
+            index,
+            steps: array.steps.len() as u8,
+            part: &step.parts.as_slice()[spot.part as usize],
+        }
+    }
+
+    // An element's index in its array, and that array.
+    #[tactic(auto, using(crate::proofs::Facts::place_in_range))]
+    fn stands(&self, e: ElementId) -> (u32, &Array)
+        requires { e.0 < elements self.now }
+        ensures index { result.0 ≡ (place_of self.now e.0).index }
+        ensures array { array_of self.now e.0 ≡ Some result.1.now }
+    {
+        let place = self.place(e);
+        let arrays = self.arrays.as_slice();
+        (place.index, &arrays[place.array as usize])
     }
 
     /// How many steps an iteration has: as many as the array with the most.

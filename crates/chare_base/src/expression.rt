@@ -1,4 +1,4 @@
-//! A plan's expressions, over the cells of one element.
+//! A plan's expressions, over the cells of one element and the values of a message.
 
 use sqlite_items::{Boxed, Items};
 
@@ -23,6 +23,8 @@ pub enum Expr {
     Number(i64),
     /// The element's cell of this number, or 0 where there is none.
     Cell(u32),
+    /// The value of this number, from 0, that came with the message that the part needs, or 0 where none came.
+    Mail(u8),
     /// The element's index in its array.
     Index,
     Negate(Boxed<Expr>),

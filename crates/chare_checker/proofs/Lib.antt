@@ -2,3 +2,4 @@ pub mod Gathered
 pub mod Operands
 pub mod Sealing
 pub mod Texts
+pub mod Whens

@@ -4,6 +4,7 @@ use Rattle.chare_base.specs.declared.expression.Expr.{Expr}
 use Rattle.chare_base.specs.declared.expression.Expr.TheVariants as exprs
 use Rattle.chare_base.specs.declared.expression.Factor.{Factor, roll-Factor}
 use Rattle.chare_base.specs.declared.expression.Term.{Term, roll-Term}
+use Rattle.chare_syntax.specs.declared.token.Span.{Span}
 use Rattle.chare_syntax.specs.declared.tree.StateDecl.{StateDecl}
 use Rattle.chare_syntax.specs.declared.tree.Product.{Product}
 use Rattle.chare_syntax.specs.declared.tree.ProductTerm.{ProductTerm}
@@ -13,7 +14,7 @@ use Rattle.chare_syntax.specs.declared.tree.Unary.{Unary}
 use Rattle.chare_syntax.specs.declared.tree.Atom.{Atom}
 use Rattle.chare_syntax.specs.declared.tree.Atom.TheOpen.{Atom-F, Product-F, ProductTerm-F, Sum-F, SumTerm-F, Unary-F}
 use Rattle.chare_syntax.specs.declared.tree.Atom.TheFolds.{fold-Atom, fold-Product, fold-ProductTerm, fold-Sum, fold-SumTerm, fold-Unary}
-use Rattle.chare_checker.specs.Names.{state_named}
+use Rattle.chare_checker.specs.Names.{param_named, state_named}
 use Rattle.chare_checker.specs.Options.{◌>>=◌, all_some}
 
 abbrev pub Planned : Type 0
@@ -32,11 +33,17 @@ abbrev pub product_of : Expr → List Factor → Expr
 product_of first [] = first
 product_of first (f ∷ more) = exprs.Product first (f ∷ more)
 
--- names are those of the given states
-module _ (text : List ℕ) (states : List StateDecl) where
+-- what a name stands for: the value of a parameter, or the cell of a state
+abbrev pub named : Option ℕ → Option ℕ → Planned
+named (Some value) state = Some (exprs.Mail value)
+named None (Some cell) = Some (exprs.Cell cell)
+named None None = None
+
+-- names are those of the given parameters and states
+module _ (text : List ℕ) (params : List Span) (states : List StateDecl) where
   abbrev pub atom_step : Atom-F Planned Planned Planned (Option Factor) Planned (Option Term) → Planned
   atom_step (Atom-F.Number n) = literal n.value
-  atom_step (Atom-F.Name span) = state_named text states span >>= λ number. Some (exprs.Cell number)
+  atom_step (Atom-F.Name span) = named (param_named text params span) (state_named text states span)
   atom_step Atom-F.Index = Some exprs.Index
   atom_step (Atom-F.Group e) = e
 

@@ -3,14 +3,16 @@
 ghost use Rattle.std.specs.Prelude.{◌≡◌, ◌^◌, ◌<◌, ◌≤◌, length, map, IfOk, IfErr, Some, None};
 ghost use Rattle.chare_base.specs.Elements.{parts_of};
 ghost use Rattle.chare_checker.specs.Options.{Gives, all_some};
-ghost use Rattle.chare_checker.specs.Planned.{answer_planned, array_planned, bounded, planned, state_planned, step_planned, stmt_planned};
+ghost use Rattle.chare_checker.specs.Planned.{answer_planned, array_planned, bounded, planned, state_planned};
 
+use crate::entries::plan_entries;
 use crate::expressions::plan_sum;
 use crate::fault::CheckFault;
 use crate::names::{bytes_at, same_name, state_named};
+use crate::steps::plan_steps;
 use chare_base::bytes::Name;
-use chare_base::plan::{Answer, Array, How, Part, Plan, State, Step, Stmt};
-use chare_syntax::tree::{AnswerDecl, ArrayDecl, Ast, StateDecl, StepDecl, StmtDecl};
+use chare_base::plan::{Answer, Array, How, Plan, State};
+use chare_syntax::tree::{AnswerDecl, ArrayDecl, Ast, StateDecl};
 use sqlite_items::Items;
 use std::alloc::Global;
 
@@ -21,18 +23,19 @@ pub fn check(alloc: Global, ast: &Ast) -> Result<Plan, CheckFault>
 {
     let text = ast.text.as_slice();
     let array = plan_array(alloc, text, &ast.job.array)?;
+    let entries = plan_entries(alloc, text, &ast.job.array)?;
     let answers = plan_answers(alloc, text, &ast.job.array, ast.job.answers.as_slice())?;
     let name = Name::from_slice(alloc, bytes_at(text, ast.job.name))?;
     let mut arrays = Items::new(alloc);
     arrays.push(array)?;
-    match Plan::sealed(name, ast.job.iterations.value, arrays, answers) {
+    match Plan::sealed(name, ast.job.iterations.value, arrays, entries, answers) {
         Some(plan) => Ok(plan),
         None => Err(CheckFault::Refused),
     }
 }
 
-// A number, where it is from low to high.
-fn bounded(low: u64, high: u64, number: u64) -> Result<u64, CheckFault>
+/// A number, where it is from low to high.
+pub fn bounded(low: u64, high: u64, number: u64) -> Result<u64, CheckFault>
     ensures exact { Gives (λ n. n) result (bounded low high number) }
     ensures within { IfOk result (λ n. n ≤ high) }
 {
@@ -49,8 +52,9 @@ fn plan_array(alloc: Global, text: &[u8], array: &ArrayDecl) -> Result<Array, Ch
 {
     let cols = bounded(1, 4096, array.size.value)?;
     bounded(1, 16, array.states.len() as u64)?;
+    bounded(0, 16, array.entries.len() as u64)?;
     let states = plan_states(alloc, text, array.states.as_slice())?;
-    let steps = plan_steps(alloc, text, array.states.as_slice(), array.steps.as_slice())?;
+    let steps = plan_steps(alloc, text, array)?;
     Ok(Array {
         name: Name::from_slice(alloc, bytes_at(text, array.name))?,
         cols: cols as u32,
@@ -74,89 +78,11 @@ fn plan_states(alloc: Global, text: &[u8], states: &[StateDecl]) -> Result<Items
 fn plan_state(alloc: Global, text: &[u8], state: &StateDecl) -> Result<State, CheckFault>
     ensures { Gives (λ s. s) result (state_planned text.now state.now) }
 {
-    let start = plan_sum(alloc, text, &[], &state.start)?;
+    let start = plan_sum(alloc, text, &[], &[], &state.start)?;
     Ok(State {
         name: Name::from_slice(alloc, bytes_at(text, state.name))?,
         start,
     })
-}
-
-// The plans of the steps.
-fn plan_steps(
-    alloc: Global,
-    text: &[u8],
-    states: &[StateDecl],
-    steps: &[StepDecl],
-) -> Result<Items<Step>, CheckFault>
-    requires { length states.now < 2 ^ 16 }
-    ensures { Gives (λ s. s) result (all_some (map (step_planned text.now states.now) steps.now)) }
-{
-    let mut planned = Items::new(alloc);
-    for step in steps {
-        planned.push(plan_step(alloc, text, states, step)?)?;
-    }
-    Ok(planned)
-}
-
-// The plan of a step: one part, its block.
-fn plan_step(
-    alloc: Global,
-    text: &[u8],
-    states: &[StateDecl],
-    step: &StepDecl,
-) -> Result<Step, CheckFault>
-    requires { length states.now < 2 ^ 16 }
-    ensures { Gives (λ s. s) result (step_planned text.now states.now step.now) }
-{
-    match step {
-        StepDecl::Block(block) => {
-            let block = plan_block(alloc, text, states, block.as_slice())?;
-            let mut parts = Items::new(alloc);
-            parts.push(Part { block })?;
-            Ok(Step { parts })
-        }
-    }
-}
-
-// The plans of the statements of a block.
-fn plan_block(
-    alloc: Global,
-    text: &[u8],
-    states: &[StateDecl],
-    block: &[StmtDecl],
-) -> Result<Items<Stmt>, CheckFault>
-    requires { length states.now < 2 ^ 16 }
-    ensures { Gives (λ s. s) result (all_some (map (stmt_planned text.now states.now) block.now)) }
-{
-    let mut planned = Items::new(alloc);
-    for stmt in block {
-        planned.push(plan_stmt(alloc, text, states, stmt)?)?;
-    }
-    Ok(planned)
-}
-
-// The plan of a statement.
-fn plan_stmt(
-    alloc: Global,
-    text: &[u8],
-    states: &[StateDecl],
-    stmt: &StmtDecl,
-) -> Result<Stmt, CheckFault>
-    requires { length states.now < 2 ^ 16 }
-    ensures { Gives (λ s. s) result (stmt_planned text.now states.now stmt.now) }
-{
-    match stmt {
-        StmtDecl::Assign { target, value } => match state_named(text, states, *target) {
-            Some(number) => {
-                let value = plan_sum(alloc, text, states, value)?;
-                Ok(Stmt::Set {
-                    cell: number as u32,
-                    value,
-                })
-            }
-            None => Err(CheckFault::Refused),
-        },
-    }
 }
 
 // The plans of the answers.

@@ -3,4 +3,5 @@ pub mod Block
 pub mod Opening
 pub mod Stage
 pub mod Fold
+pub mod Inside
 pub mod Laws

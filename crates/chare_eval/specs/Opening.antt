@@ -5,6 +5,7 @@ use Rattle.chare_base.specs.declared.cells.Slip.{Slip}
 use Rattle.chare_base.specs.declared.plan.Plan.{Plan}
 use Rattle.chare_base.specs.declared.plan.State.{State}
 use Rattle.chare_base.specs.Elements.{elements, states_of}
+use Rattle.chare_base.specs.Entries.{nothing}
 use Rattle.chare_eval.specs.declared.value.Scene.{Scene}
 use Rattle.chare_eval.specs.Value.{value_of}
 use Rattle.chare_eval.specs.Block.{scene_of}
@@ -18,7 +19,7 @@ starts scene = map (λ s. value_of s.start scene [])
 
 -- an element's initial cells
 unfoldable pub start_of : Plan → ℕ → Cells
-start_of p e = record { numbers = starts (scene_of p e) (states_of p e); slip = no_slip }
+start_of p e = record { numbers = starts (scene_of p e nothing) (states_of p e); slip = no_slip }
 
 -- so many elements, from one on
 abbrev pub starts_from : Plan → ℕ → ℕ → List Cells

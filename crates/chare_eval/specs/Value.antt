@@ -40,6 +40,7 @@ product_from (f ∷ more) scene cells product = product_from more scene cells (m
 abbrev pub expr_step : Expr-F Meaning (MulOp × Meaning) (AddOp × Meaning) → Meaning
 expr_step (Expr-F.Number n) scene cells = n
 expr_step (Expr-F.Cell at) scene cells = cell cells at
+expr_step (Expr-F.Mail value) scene cells = cell scene.values value
 expr_step Expr-F.Index scene cells = pos scene.index
 expr_step (Expr-F.Negate e) scene cells = int_wrapping_sub w64 (pos 0) (e scene cells)
 expr_step (Expr-F.Sum first others) scene cells = sum_from others scene cells (first scene cells)

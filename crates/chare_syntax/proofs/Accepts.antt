@@ -19,12 +19,13 @@ found_is n ts job e =
       shallow = omega (arith, v.3.0.0);
       some_states = v.3.0.1;
       some_steps = v.3.0.2;
+      filled_steps = v.3.0.3;
       some_answers = v.3.1;
     }
 
 pub is_read : (n : ℕ) (ts : List Token) (job : Job) → Spells (n + 2) ts job → text_at n ts ≡ Ok (job, [])
 is_read n ts job s =
-    ap (text_at n) (sym (append-nil ts)) ∙ (text_full n).again job ts [] ((omega (arith, s.shallow), s.some_states, s.some_steps), s.some_answers) s.spelled refl
+    ap (text_at n) (sym (append-nil ts)) ∙ (text_full n).again job ts [] ((omega (arith, s.shallow), s.some_states, s.some_steps, s.filled_steps), s.some_answers) s.spelled refl
 
 abbrev pub answer : Job → Read Job
 answer job = Ok (job, [])

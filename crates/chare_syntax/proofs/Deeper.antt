@@ -4,20 +4,28 @@ use Rattle.chare_syntax.specs.declared.token.Kind.{Kind}
 use Rattle.chare_syntax.specs.declared.token.Kind.TheVariants as kinds
 use Rattle.chare_syntax.specs.declared.token.Mark.{Mark}
 use Rattle.chare_syntax.specs.declared.token.Mark.TheVariants as marks
+use Rattle.chare_syntax.specs.declared.token.Span.{Span}
 use Rattle.chare_syntax.specs.declared.token.Token.{Token}
 use Rattle.chare_syntax.specs.declared.tree.Atom.{Atom}
 use Rattle.chare_syntax.specs.declared.tree.Job.{Job}
+use Rattle.chare_syntax.specs.declared.tree.Sum.{Sum}
 use Rattle.chare_syntax.specs.declared.tree.Unary.{Unary}
 use Rattle.chare_syntax.specs.declared.tree.Unary.TheVariants as unaries
 use Rattle.chare_syntax.specs.Tokens.{is_last}
 use Rattle.chare_syntax.specs.Fault.{Stop, wrong, ◌>>=◌}
-use Rattle.chare_syntax.specs.Reading.{Read, goes, one, taken, is_mark, is_add, is_mul, is_name, name_of, num_of, mark_of, add_of, mul_of, leaf_of, end_of, finish, refuse, name_at, num_at, mark_at, add_at, mul_at, leaf_at, product_term_with, product_with, sum_term_with, sum_with, group_with, minus_with, atom_with, level, sum_at, stmt_at, stmts_at, step_at, steps_at, state_at, states_at, array_at, answer_at, answers_at, job_at, end_at, text_at}
+use Rattle.chare_syntax.specs.Reading.{Read, goes, one, taken, many, is_mark, is_add, is_mul, is_stmt, name_of, num_of, mark_of, add_of, mul_of, leaf_of, end_of, finish, refuse, name_at, num_at, mark_at, add_at, mul_at, leaf_at, product_term_with, product_with, sum_term_with, sum_with, group_with, minus_with, atom_with, level, behind, listed, sum_at, assign_at, values_at, send_at, stmt_at, stmts_at, block_at, names_at, when_at, part_at, step_at, steps_at, state_at, states_at, array_at, answer_at, answers_at, job_at, end_at, text_at}
 use Rattle.chare_syntax.proofs.Steps.{left_of, left_pair, bind_err, err_same}
 use Rattle.chare_syntax.proofs.Both.{both, dress}
 use Rattle.chare_syntax.proofs.Grows.{last, By, Grown, Opens, one_grown, both_grown, dressed_grown, either_grown, opened_grown, many_grown, some_grown, refuse_kept}
 use Rattle.chare_syntax.proofs.Sums.{of_factor, of_product, of_term, of_sum, factor_same, product_same, term_same, sum_same}
 use Rattle.chare_syntax.proofs.Levels.{of_group, of_minus, of_atom, group_same, minus_same}
-use Rattle.chare_syntax.proofs.Jobs.{of_stmt, of_step, of_state, of_array, of_answer, of_job, of_end, of_text, stmt_same, step_same, state_same, array_same, answer_same, job_same, end_same, text_same}
+use Rattle.chare_syntax.proofs.Listed.{of_next, behind_same}
+use Rattle.chare_syntax.proofs.Many.{cons, then_same}
+use Rattle.chare_syntax.proofs.Blocks.{of_assign, of_send, of_block, of_when, of_part, of_step, assign_same, send_same, block_same, when_same, step_same, alone_at}
+use Rattle.chare_syntax.proofs.Jobs.{of_state, of_array, of_answer, of_job, of_end, of_text, state_same, array_same, answer_same, job_same, end_same, text_same}
+use Rattle.chare_syntax.specs.Reading.{sign_at, signed_at, count_at, counted_at, wrap_at, else_at, edge_at, entry_at, entries_at}
+use Rattle.chare_syntax.proofs.Optional.{optional_grown}
+use Rattle.chare_syntax.proofs.Entry.{of_sign, of_signed, of_count, of_wrap, of_else, of_entry, sign_same, signed_same, count_same, wrap_same, else_same, entry_same}
 
 -- ---- no last token is taken before the end
 
@@ -75,6 +83,13 @@ module _ (b g : Bool) where
   leaf_grown : Grown b g leaf_at leaf_at
   unfolding leaf_at
   leaf_grown = one_grown b g leaf_of (λ k e. leaf_none k (ended b k e))
+
+  -- ---- with a mark between them
+
+  listed_grown : {A : Type 0} (mark : Mark) {p p' : List Token → Read A} → Grown b g p p' → Grown b g (listed mark p) (listed mark p')
+  listed_grown mark {p = p} {p' = p'} gp =
+      dressed_grown b g (both_grown b g gp (many_grown b g (is_mark mark) (dressed_grown b g (both_grown b g (mark_grown mark) gp) of_next (behind mark p) (behind mark p') (behind_same mark p) (behind_same mark p'))))
+      cons (listed mark p) (listed mark p') (then_same p (many (is_mark mark) (behind mark p))) (then_same p' (many (is_mark mark) (behind mark p')))
 
   -- ---- expressions
 
@@ -154,32 +169,84 @@ module _ (b : Bool) where
       (dressed_grown b true (either_grown b true (is_mark marks.OpenParen) (group_grown b true (level n) (level m) gl) (leaf_grown b true)) of_atom
       (alone_with (atom_with (group_with (sum_with (product_with (level n)))))) (alone_with (atom_with (group_with (sum_with (product_with (level m)))))) (λ ts. refl) (λ ts. refl))
 
--- ---- declarations
+-- ---- statements and steps
+
+sum_at_kept : (b : Bool) (n : ℕ) → Grown b false (sum_at n) (sum_at n)
+unfolding sum_at
+sum_at_kept b n = over_grown b false (level n) (level n) (level_kept b n)
+
+sum_at_grown : (b : Bool) (n m : ℕ) → n < m → Grown b true (sum_at n) (sum_at m)
+unfolding sum_at
+sum_at_grown b n m h = over_grown b true (level n) (level m) (level_grown b n m h)
+
+module _ (b g : Bool) (n m : ℕ) (gs : Grown b g (sum_at n) (sum_at m)) where
+  assign_grown : Grown b g (assign_at n) (assign_at m)
+  assign_grown = dressed_grown b g (both_grown b g (name_grown b g) (both_grown b g (mark_grown b g marks.Assign) gs)) of_assign (assign_at n) (assign_at m) (assign_same n) (assign_same m)
+
+  values_grown : Grown b g (values_at n) (values_at m)
+  unfolding values_at
+  values_grown = listed_grown b g marks.Comma gs
+
+  abbrev sent : ℕ → List Token → Read (Span × (Unit {0} × (Span × (Unit {0} × (List Sum × Unit {0})))))
+  sent k = both name_at (both (mark_at marks.Dot) (both name_at (both (mark_at marks.OpenParen) (both (values_at k) (mark_at marks.CloseParen)))))
+
+  -- what stands behind the word `send`
+  sent_grown : Grown b g (sent n) (sent m)
+  sent_grown =
+      both_grown b g (name_grown b g) (both_grown b g (mark_grown b g marks.Dot) (both_grown b g (name_grown b g) (both_grown b g (mark_grown b g marks.OpenParen) (both_grown b g values_grown (mark_grown b g marks.CloseParen)))))
+
+  send_grown : Grown b g (send_at n) (send_at m)
+  send_grown = dressed_grown b g (both_grown b g (mark_grown b g marks.Send) sent_grown) of_send (send_at n) (send_at m) (send_same n) (send_same m)
+
+send_opens : (b : Bool) (n : ℕ) → Opens b marks.Send (send_at n)
+send_opens b n =
+    let gs = sum_at_kept b n in
+    let k = send_grown b false n n gs in
+    record { less = k.less; keeps = k.keeps; opens = mark_taken marks.Send (sent b false n n gs n) of_send (send_at n) (send_same n) (sent_grown b false n n gs).less }
+
+stmt_grown : (b : Bool) (n m : ℕ) → n < m → Grown b true (stmt_at n) (stmt_at m)
+unfolding stmt_at
+stmt_grown b n zero h = absurd (omega arith)
+stmt_grown b zero (suc m) h = opened_grown b true marks.Send (send_opens b m) (assign_grown b true 0 (suc m) (sum_at_grown b 0 (suc m) h))
+stmt_grown b (suc n) (suc m) h =
+    either_grown b true (is_mark marks.Send) (send_grown b true n m (sum_at_grown b n m (omega arith))) (assign_grown b true (suc n) (suc m) (sum_at_grown b (suc n) (suc m) h))
+
+names_grown : (b g : Bool) → Grown b g names_at names_at
+unfolding names_at
+names_grown b g = listed_grown b g marks.Comma (name_grown b g)
 
 module _ (b : Bool) (n m : ℕ) (h : n < m) where
-  sum_at_grown : Grown b true (sum_at n) (sum_at m)
-  unfolding sum_at
-  sum_at_grown = over_grown b true (level n) (level m) (level_grown b n m h)
-
-  stmt_grown : Grown b true (stmt_at n) (stmt_at m)
-  stmt_grown = dressed_grown b true (both_grown b true (name_grown b true) (both_grown b true (mark_grown b true marks.Assign) sum_at_grown)) of_stmt (stmt_at n) (stmt_at m) (stmt_same n) (stmt_same m)
-
   stmts_grown : Grown b true (stmts_at n) (stmts_at m)
   unfolding stmts_at
-  stmts_grown = many_grown b true is_name stmt_grown
+  stmts_grown = many_grown b true is_stmt (stmt_grown b n m h)
+
+  block_grown : Grown b true (block_at n) (block_at m)
+  block_grown = dressed_grown b true (both_grown b true (mark_grown b true marks.OpenBrace) (both_grown b true stmts_grown (mark_grown b true marks.CloseBrace))) of_block (block_at n) (block_at m) (block_same n) (block_same m)
+
+  when_grown : Grown b true (when_at n) (when_at m)
+  when_grown = dressed_grown b true
+      (both_grown b true (mark_grown b true marks.When) (both_grown b true (name_grown b true) (both_grown b true (mark_grown b true marks.OpenParen) (both_grown b true (names_grown b true)
+      (both_grown b true (mark_grown b true marks.CloseParen) block_grown)))))
+      of_when (when_at n) (when_at m) (when_same n) (when_same m)
+
+  part_grown : Grown b true (part_at n) (part_at m)
+  unfolding part_at
+  part_grown = either_grown b true (is_mark marks.When) when_grown (dressed_grown b true block_grown of_part (alone_at n) (alone_at m) (λ ts. refl) (λ ts. refl))
 
   step_grown : Grown b true (step_at n) (step_at m)
-  step_grown = dressed_grown b true (both_grown b true (mark_grown b true marks.Step) (both_grown b true (mark_grown b true marks.OpenBrace) (both_grown b true stmts_grown (mark_grown b true marks.CloseBrace))))
-      of_step (step_at n) (step_at m) (step_same n) (step_same m)
+  step_grown = dressed_grown b true (both_grown b true (mark_grown b true marks.Step) part_grown) of_step (step_at n) (step_at m) (step_same n) (step_same m)
 
   steps_grown : Grown b true (steps_at n) (steps_at m)
   unfolding steps_at
   steps_grown = some_grown b true (is_mark marks.Step) step_grown
 
+-- ---- declarations
+
+module _ (b : Bool) (n m : ℕ) (h : n < m) where
   state_grown : Grown b true (state_at n) (state_at m)
   state_grown = dressed_grown b true
       (both_grown b true (mark_grown b true marks.State) (both_grown b true (name_grown b true) (both_grown b true (mark_grown b true marks.Colon) (both_grown b true (mark_grown b true marks.Int)
-      (both_grown b true (mark_grown b true marks.Assign) sum_at_grown)))))
+      (both_grown b true (mark_grown b true marks.Assign) (sum_at_grown b n m h))))))
       of_state (state_at n) (state_at m) (state_same n) (state_same m)
 
   states_grown : Grown b true (states_at n) (states_at m)
@@ -193,12 +260,38 @@ answers_grown b = some_grown b true (is_mark marks.Answer)
     (both_grown b true (mark_grown b true marks.Answer) (both_grown b true (mark_grown b true marks.Sum) (both_grown b true (name_grown b true) (both_grown b true (mark_grown b true marks.Dot) (name_grown b true)))))
     of_answer answer_at answer_at answer_same answer_same)
 
+-- an entry is read alike at any number of levels
+module _ (b : Bool) where
+  signed_grown : Grown b true signed_at signed_at
+  signed_grown = dressed_grown b true
+      (both_grown b true (dressed_grown b true (optional_grown b true (is_mark marks.Minus) (mark_grown b true marks.Minus)) of_sign sign_at sign_at sign_same sign_same) (num_grown b true))
+      of_signed signed_at signed_at signed_same signed_same
+
+  counted_grown : Grown b true counted_at counted_at
+  unfolding counted_at
+  counted_grown = optional_grown b true (is_mark marks.OpenParen)
+      (dressed_grown b true (both_grown b true (mark_grown b true marks.OpenParen) (both_grown b true (num_grown b true) (mark_grown b true marks.CloseParen))) of_count count_at count_at count_same count_same)
+
+  edge_grown : Grown b true edge_at edge_at
+  unfolding edge_at
+  edge_grown = either_grown b true (is_mark marks.Wrap)
+      (dressed_grown b true (mark_grown b true marks.Wrap) of_wrap wrap_at wrap_at wrap_same wrap_same)
+      (dressed_grown b true (both_grown b true (mark_grown b true marks.Else) signed_grown) of_else else_at else_at else_same else_same)
+
+  entries_grown : Grown b true entries_at entries_at
+  unfolding entries_at
+  entries_grown = many_grown b true (is_mark marks.Entry)
+      (dressed_grown b true
+      (both_grown b true (mark_grown b true marks.Entry) (both_grown b true (name_grown b true) (both_grown b true counted_grown (both_grown b true (mark_grown b true marks.From) (both_grown b true (name_grown b true)
+      (both_grown b true (mark_grown b true marks.OpenBracket) (both_grown b true signed_grown (both_grown b true (mark_grown b true marks.CloseBracket) edge_grown))))))))
+      of_entry entry_at entry_at entry_same entry_same)
+
 module _ (b : Bool) (n m : ℕ) (h : n < m) where
   array_grown : Grown b true (array_at n) (array_at m)
   array_grown = dressed_grown b true
       (both_grown b true (mark_grown b true marks.Array) (both_grown b true (name_grown b true) (both_grown b true (mark_grown b true marks.OpenBracket) (both_grown b true (num_grown b true)
       (both_grown b true (mark_grown b true marks.CloseBracket) (both_grown b true (mark_grown b true marks.OpenBrace)
-      (both_grown b true (states_grown b (suc n) (suc m) (omega arith)) (both_grown b true (steps_grown b n m h) (mark_grown b true marks.CloseBrace)))))))))
+      (both_grown b true (states_grown b (suc n) (suc m) (omega arith)) (both_grown b true (entries_grown b) (both_grown b true (steps_grown b n m h) (mark_grown b true marks.CloseBrace))))))))))
       of_array (array_at n) (array_at m) (array_same n) (array_same m)
 
   pub job_grown : Grown b true (job_at n) (job_at m)

@@ -1,4 +1,4 @@
--- Declarations keep to the laws.
+-- Arrays, answers and jobs keep to the laws.
 use Rattle.std.proofs.Common.{◌≡◌, ℕ, suc, ◌≤◌, ◌<◌, Bool, true, false, ◌||◌, List, [], ◌∷◌, ◌++◌, length, refl, ap, arith, Ok, Err}
 use Rattle.std.specs.List.{AllByRecursion, flat_map}
 use Rattle.chare_syntax.specs.declared.token.Kind.{Kind}
@@ -10,122 +10,26 @@ use Rattle.chare_syntax.specs.declared.token.Token.{Token}
 use Rattle.chare_syntax.specs.declared.tree.AnswerDecl.{AnswerDecl}
 use Rattle.chare_syntax.specs.declared.tree.AnswerDecl.TheVariants as answers
 use Rattle.chare_syntax.specs.declared.tree.ArrayDecl.{ArrayDecl}
+use Rattle.chare_syntax.specs.declared.tree.EntryDecl.{EntryDecl}
 use Rattle.chare_syntax.specs.declared.tree.Job.{Job}
 use Rattle.chare_syntax.specs.declared.tree.StateDecl.{StateDecl}
 use Rattle.chare_syntax.specs.declared.tree.StepDecl.{StepDecl}
-use Rattle.chare_syntax.specs.declared.tree.StepDecl.TheVariants as steps
-use Rattle.chare_syntax.specs.declared.tree.StmtDecl.{StmtDecl}
-use Rattle.chare_syntax.specs.declared.tree.StmtDecl.TheVariants as stmts
 use Rattle.chare_syntax.specs.declared.tree.Sum.{Sum}
+use Rattle.chare_syntax.specs.Accepted.{StepFilled}
 use Rattle.chare_syntax.specs.Fault.{◌>>=◌}
-use Rattle.chare_syntax.specs.Spelling.{Kinds, sum_spelling, state_spelling, stmt_spelling, step_spelling, array_spelling, answer_spelling, job_spelling}
-use Rattle.chare_syntax.specs.Depth.{state_depth, stmt_depth, step_depth, array_depth}
-use Rattle.chare_syntax.specs.Reading.{Read, goes, one, is_mark, is_name, end_of, finish, some, name_at, num_at, mark_at, sum_at, stmt_at, stmts_at, step_at, steps_at, state_at, states_at, array_at, answer_at, answers_at, job_at, end_at, text_at}
+use Rattle.chare_syntax.specs.Spelling.{Kinds, sum_spelling, state_spelling, step_spelling, array_spelling, answer_spelling, job_spelling}
+use Rattle.chare_syntax.specs.Depth.{state_depth, array_depth}
+use Rattle.chare_syntax.specs.Reading.{Read, goes, one, is_mark, end_of, finish, name_at, num_at, mark_at, sum_at, steps_at, state_at, states_at, array_at, answer_at, answers_at, job_at, end_at, text_at}
 use Rattle.chare_syntax.proofs.Steps.{kinds as kinds_of, bind_assoc}
 use Rattle.chare_syntax.proofs.Laws.{Sound, Full, shorter}
 use Rattle.chare_syntax.proofs.Both.{both, both_sound, both_full, dress, dressed_sound, dressed_full}
-use Rattle.chare_syntax.proofs.Many.{Shrinks, Some, many_sound, many_full, some_sound, some_full}
+use Rattle.chare_syntax.proofs.Many.{Shrinks, Some, some_sound, some_full}
 use Rattle.chare_syntax.proofs.One.{never, never_goes, always, anything, name_sound, name_full, num_sound, num_full, mark_sound, mark_full, is_mark_same, end_sound, end_full, finish_sound, finish_full, head_is}
-use Rattle.chare_syntax.proofs.Sums.{IsSum, some_name, on_sum, goes_left, goes_right, all_deep, deep_all}
+use Rattle.chare_syntax.proofs.Sums.{some_name, on_sum, goes_left, goes_right, all_deep, deep_all}
 use Rattle.chare_syntax.proofs.Levels.{some_sum, some_sum_is, sum_at_sound, sum_at_full}
-
--- ---- statements
-
-abbrev pub IsStmt : ℕ → StmtDecl → Type 0
-IsStmt n s = stmt_depth s ≤ n
-
-abbrev pub of_stmt : Span × (Unit {0} × Sum) → StmtDecl
-of_stmt x = stmts.Assign x.0 x.1.1
-
-pub stmt_same : (n : ℕ) (ts : List Token) → stmt_at n ts ≡ (both name_at (both (mark_at marks.Assign) (sum_at n)) ts >>= dress of_stmt)
-unfolding stmt_at
-stmt_same n ts = simp bind_assoc refl
-
-pub stmt_sound : (n : ℕ) → Sound StmtDecl (IsStmt n) stmt_spelling (stmt_at n)
-stmt_sound n = dressed_sound (IsStmt n) stmt_spelling (stmt_at n) of_stmt (λ x. refl) (stmt_same n)
-    (both_sound name_sound (both_sound (mark_sound marks.Assign) (sum_at_sound n) some_sum (some_sum_is n)) (tt, some_sum) (tt, some_sum_is n)) (λ x is. is.1.1)
-
-stmt_parts : (n : ℕ) (y : StmtDecl) → IsStmt n y → (x : Span × (Unit {0} × Sum)) × (always x.0 × (always x.1.0 × IsSum n x.1.1)) × (of_stmt x ≡ y)
-stmt_parts n (stmts.Assign target value) is = ((target, (tt, value)), (tt, (tt, is)), refl)
-
-stmt_full : (n : ℕ) → Full StmtDecl (IsStmt n) stmt_spelling on_sum (stmt_at n)
-stmt_full n = dressed_full (IsStmt n) stmt_spelling (stmt_at n) of_stmt (λ x. refl) (stmt_same n)
-    (both_full name_full (both_full (mark_full marks.Assign) (sum_at_full n) (λ y seen rest is e g. never_goes (seen ++ rest))) (λ y seen rest is e g. never_goes (seen ++ rest))) (stmt_parts n)
-
-stmt_solid : (y : StmtDecl) → stmt_spelling y ≡ [] → ⊥
-stmt_solid (stmts.Assign target value) e = absurd cc
-
-stmt_begins : (y : StmtDecl) (seen rest : List Token) → kinds_of seen ≡ stmt_spelling y → goes is_name (seen ++ rest) ≡ true
-stmt_begins (stmts.Assign target value) seen rest e = head_is is_name true (kinds.Name target) (kinds.Mark marks.Assign ∷ sum_spelling value) seen rest refl e
-
-abbrev on_stmts : Kind → Bool
-on_stmts k = is_name k || on_sum k
-
-name_not_sum : (k : Kind) → is_name k ≡ true → on_sum k ≡ false
-name_not_sum (kinds.Name s) e = refl
-name_not_sum _ e = absurd cc
-
-goes_name : (ts : List Token) → goes is_name ts ≡ true → goes on_sum ts ≡ false
-goes_name [] e = absurd cc
-goes_name (t ∷ ts) e = name_not_sum t.kind e
-
-stmts_sound : (n : ℕ) → Sound (List StmtDecl) (AllByRecursion (IsStmt n)) (flat_map stmt_spelling) (stmts_at n)
-unfolding stmts_at
-stmts_sound n = many_sound is_name (stmt_sound n) stmt_solid
-
-stmts_full : (n : ℕ) → Full (List StmtDecl) (AllByRecursion (IsStmt n)) (flat_map stmt_spelling) on_stmts (stmts_at n)
-unfolding stmts_at
-stmts_full n = many_full is_name (stmt_sound n) stmt_solid on_stmts (stmt_full n) (λ x seen rest is e. stmt_begins x seen rest e) goes_name (goes_left is_name on_sum) (goes_right is_name on_sum)
-
--- ---- steps
-
-abbrev pub IsStep : ℕ → StepDecl → Type 0
-IsStep n s = step_depth s ≤ suc n
-
-abbrev pub of_step : Unit {0} × (Unit {0} × (List StmtDecl × Unit {0})) → StepDecl
-of_step x = steps.Block x.1.1.0
-
-pub step_same : (n : ℕ) (ts : List Token) → step_at n ts ≡ (both (mark_at marks.Step) (both (mark_at marks.OpenBrace) (both (stmts_at n) (mark_at marks.CloseBrace))) ts >>= dress of_step)
-unfolding step_at
-step_same n ts = simp bind_assoc refl
-
-pub step_sound : (n : ℕ) → Sound StepDecl (IsStep n) step_spelling (step_at n)
-step_sound n = dressed_sound (IsStep n) step_spelling (step_at n) of_step (λ x. refl) (step_same n)
-    (both_sound (mark_sound marks.Step) (both_sound (mark_sound marks.OpenBrace) (both_sound (stmts_sound n) (mark_sound marks.CloseBrace) tt tt) ([], tt) (tt, tt)) (tt, ([], tt)) (tt, (tt, tt)))
-    (λ x is. omega (arith, all_deep stmt_depth n x.1.1.0 is.1.1.0))
-
-step_parts : (n : ℕ) (y : StepDecl) → IsStep n y → (x : Unit {0} × (Unit {0} × (List StmtDecl × Unit {0}))) × (always x.0 × (always x.1.0 × (AllByRecursion (IsStmt n) x.1.1.0 × always x.1.1.1))) × (of_step x ≡ y)
-step_parts n (steps.Block block) is = ((tt, (tt, (block, tt))), (tt, (tt, (deep_all stmt_depth n block (omega arith), tt))), refl)
-
-step_full : (n : ℕ) → Full StepDecl (IsStep n) step_spelling never (step_at n)
-step_full n = dressed_full (IsStep n) step_spelling (step_at n) of_step (λ x. refl) (step_same n)
-    (both_full (mark_full marks.Step)
-    (both_full (mark_full marks.OpenBrace)
-    (both_full (stmts_full n) (mark_full marks.CloseBrace) (λ y seen rest is e g. head_is on_stmts false (kinds.Mark marks.CloseBrace) [] seen rest refl e))
-    (λ y seen rest is e g. never_goes (seen ++ rest)))
-    (λ y seen rest is e g. never_goes (seen ++ rest)))
-    (step_parts n)
-
-step_solid : (y : StepDecl) → step_spelling y ≡ [] → ⊥
-step_solid (steps.Block block) e = absurd cc
-
-step_begins : (y : StepDecl) (seen rest : List Token) → kinds_of seen ≡ step_spelling y → goes (is_mark marks.Step) (seen ++ rest) ≡ true
-step_begins (steps.Block block) seen rest e =
-    head_is (is_mark marks.Step) true (kinds.Mark marks.Step) (kinds.Mark marks.OpenBrace ∷ (flat_map stmt_spelling block ++ kinds.Mark marks.CloseBrace ∷ [])) seen rest refl e
-
-steps_sound : (n : ℕ) → Sound (List StepDecl) (Some (IsStep n)) (flat_map step_spelling) (steps_at n)
-unfolding steps_at
-steps_sound n = some_sound (is_mark marks.Step) (step_sound n) step_solid
-
-steps_full : (n : ℕ) → Full (List StepDecl) (Some (IsStep n)) (flat_map step_spelling) (is_mark marks.Step) (steps_at n)
-unfolding steps_at
-steps_full n = some_full (is_mark marks.Step) (step_sound n) step_solid (is_mark marks.Step) (step_full n) (λ x seen rest is e. step_begins x seen rest e) (λ ts g. never_goes ts) (λ ts g. g) (λ ts g. never_goes ts)
-
--- steps begin with a step
-steps_front : (on : Kind → Bool) → on (kinds.Mark marks.Step) ≡ false → (ys : List StepDecl) (k : Kinds) (seen rest : List Token) → 0 < length ys → kinds_of seen ≡ flat_map step_spelling ys ++ k → goes on (seen ++ rest) ≡ false
-steps_front on h [] k seen rest some e = absurd (omega arith)
-steps_front on h (steps.Block block ∷ ys) k seen rest some e =
-    head_is on false (kinds.Mark marks.Step) (kinds.Mark marks.OpenBrace ∷ (((flat_map stmt_spelling block ++ kinds.Mark marks.CloseBrace ∷ []) ++ flat_map step_spelling ys) ++ k)) seen rest h e
+use Rattle.chare_syntax.proofs.Blocks.{all_always, IsStep, some_step, some_step_is, steps_sound, steps_full, steps_front, steps_deep, steps_filled, steps_are}
+use Rattle.chare_syntax.specs.Reading.{entries_at}
+use Rattle.chare_syntax.proofs.Entry.{some_num, entries_sound, entries_full, entries_front, entries_deep}
 
 -- ---- state variables
 
@@ -191,40 +95,34 @@ states_full n = some_full (is_mark marks.State) (state_sound n) state_solid on_s
 -- ---- arrays
 
 abbrev pub IsArray : ℕ → ArrayDecl → Type 0
-IsArray n a = (array_depth a ≤ suc (suc n)) × (0 < length a.states) × (0 < length a.steps)
+IsArray n a = (array_depth a ≤ suc (suc n)) × (0 < length a.states) × (0 < length a.steps) × AllByRecursion StepFilled a.steps
 
 abbrev States : Type 0
-States = List StateDecl × (List StepDecl × Unit {0})
+States = List StateDecl × (List EntryDecl × (List StepDecl × Unit {0}))
 
 abbrev pub of_array : Unit {0} × (Span × (Unit {0} × (Num × (Unit {0} × (Unit {0} × States))))) → ArrayDecl
-of_array x = record { name = x.1.0; size = x.1.1.1.0; states = x.1.1.1.1.1.1.0; steps = x.1.1.1.1.1.1.1.0 }
+of_array x = record { name = x.1.0; size = x.1.1.1.0; states = x.1.1.1.1.1.1.0; entries = x.1.1.1.1.1.1.1.0; steps = x.1.1.1.1.1.1.1.1.0 }
 
 pub array_same : (n : ℕ) (ts : List Token) → array_at n ts ≡
     (both (mark_at marks.Array) (both name_at (both (mark_at marks.OpenBracket) (both num_at (both (mark_at marks.CloseBracket) (both (mark_at marks.OpenBrace)
-    (both (states_at (suc n)) (both (steps_at n) (mark_at marks.CloseBrace)))))))) ts >>= dress of_array)
+    (both (states_at (suc n)) (both entries_at (both (steps_at n) (mark_at marks.CloseBrace))))))))) ts >>= dress of_array)
 unfolding array_at
 array_same n ts = simp bind_assoc refl
 
 abbrev some_state : StateDecl
 some_state = record { name = some_name; start = some_sum }
 
-abbrev some_step : StepDecl
-some_step = steps.Block []
-
-abbrev some_num : Num
-some_num = record { at = 0; value = 0 }
-
 abbrev some_states : States
-some_states = (some_state ∷ [], (some_step ∷ [], tt))
+some_states = (some_state ∷ [], ([], (some_step ∷ [], tt)))
 
 abbrev AreStates : ℕ → States → Type 0
-AreStates n x = Some (IsState (suc n)) x.0 × (Some (IsStep n) x.1.0 × always x.1.1)
+AreStates n x = Some (IsState (suc n)) x.0 × (AllByRecursion always x.1.0 × (Some (IsStep n) x.1.1.0 × always x.1.1.1))
 
 some_states_are : (n : ℕ) → AreStates n some_states
-some_states_are n = (((some_sum_is (suc n), tt), omega arith), (((omega arith, tt), omega arith), tt))
+some_states_are n = (((some_sum_is (suc n), tt), omega arith), (tt, (((some_step_is n, tt), omega arith), tt)))
 
 array_deep : (n : ℕ) (a : ArrayDecl) → AllByRecursion (IsState (suc n)) a.states → AllByRecursion (IsStep n) a.steps → array_depth a ≤ suc (suc n)
-array_deep n a s t = omega (arith, all_deep state_depth (suc n) a.states s, all_deep step_depth (suc n) a.steps t)
+array_deep n a s t = omega (arith, all_deep state_depth (suc n) a.states s, entries_deep a.entries, steps_deep n a.steps t)
 
 pub array_sound : (n : ℕ) → Sound ArrayDecl (IsArray n) array_spelling (array_at n)
 array_sound n = dressed_sound (IsArray n) array_spelling (array_at n) of_array (λ x. refl) (array_same n)
@@ -234,14 +132,16 @@ array_sound n = dressed_sound (IsArray n) array_spelling (array_at n) of_array (
     (both_sound num_sound
     (both_sound (mark_sound marks.CloseBracket)
     (both_sound (mark_sound marks.OpenBrace)
-    (both_sound (states_sound (suc n)) (both_sound (steps_sound n) (mark_sound marks.CloseBrace) tt tt) some_states.1 (some_states_are n).1)
+    (both_sound (states_sound (suc n))
+    (both_sound entries_sound (both_sound (steps_sound n) (mark_sound marks.CloseBrace) tt tt) some_states.1.1 (some_states_are n).1.1)
+    some_states.1 (some_states_are n).1)
     some_states (some_states_are n))
     (tt, some_states) (tt, some_states_are n))
     (tt, (tt, some_states)) (tt, (tt, some_states_are n)))
     (some_num, (tt, (tt, some_states))) (tt, (tt, (tt, some_states_are n))))
     (tt, (some_num, (tt, (tt, some_states)))) (tt, (tt, (tt, (tt, some_states_are n)))))
     (some_name, (tt, (some_num, (tt, (tt, some_states))))) (tt, (tt, (tt, (tt, (tt, some_states_are n))))))
-    (λ x is. let s = is.1.1.1.1.1.1 in (array_deep n (of_array x) s.0.0 s.1.0.0, s.0.1, s.1.0.1))
+    (λ x is. let s = is.1.1.1.1.1.1 in (array_deep n (of_array x) s.0.0 s.1.1.0.0, s.0.1, s.1.1.0.1, steps_filled n (of_array x).steps s.1.1.0.0))
 
 pub array_full : (n : ℕ) → Full ArrayDecl (IsArray n) array_spelling never (array_at n)
 array_full n = dressed_full (IsArray n) array_spelling (array_at n) of_array (λ x. refl) (array_same n)
@@ -252,8 +152,11 @@ array_full n = dressed_full (IsArray n) array_spelling (array_at n) of_array (λ
     (both_full (mark_full marks.CloseBracket)
     (both_full (mark_full marks.OpenBrace)
     (both_full (states_full (suc n))
+    (both_full entries_full
     (both_full (steps_full n) (mark_full marks.CloseBrace) (λ y seen rest is e g. head_is (is_mark marks.Step) false (kinds.Mark marks.CloseBrace) [] seen rest refl e))
-    (λ y seen rest is e g. steps_front on_states refl y.0 (kinds.Mark marks.CloseBrace ∷ []) seen rest is.0.1 e))
+    (λ y seen rest is e g. steps_front (is_mark marks.Entry) refl y.0 (kinds.Mark marks.CloseBrace ∷ []) seen rest is.0.1 e))
+    (λ y seen rest is e g. entries_front on_states refl y.0 (flat_map step_spelling y.1.0 ++ kinds.Mark marks.CloseBrace ∷ []) seen rest
+    (λ k. steps_front on_states refl y.1.0 (kinds.Mark marks.CloseBrace ∷ []) seen rest is.1.0.1 k) e))
     (λ y seen rest is e g. never_goes (seen ++ rest)))
     (λ y seen rest is e g. never_goes (seen ++ rest)))
     (λ y seen rest is e g. never_goes (seen ++ rest)))
@@ -261,8 +164,8 @@ array_full n = dressed_full (IsArray n) array_spelling (array_at n) of_array (λ
     (λ y seen rest is e g. never_goes (seen ++ rest)))
     (λ y seen rest is e g. never_goes (seen ++ rest)))
     (λ a is. (
-      (tt, (a.name, (tt, (a.size, (tt, (tt, (a.states, (a.steps, tt)))))))),
-      (tt, (tt, (tt, (tt, (tt, (tt, ((deep_all state_depth (suc n) a.states (omega (arith, is.0)), is.1), ((deep_all step_depth (suc n) a.steps (omega (arith, is.0)), is.2), tt)))))))),
+      (tt, (a.name, (tt, (a.size, (tt, (tt, (a.states, (a.entries, (a.steps, tt))))))))),
+      (tt, (tt, (tt, (tt, (tt, (tt, ((deep_all state_depth (suc n) a.states (omega (arith, is.0)), is.1), (all_always a.entries, ((steps_are n a.steps (omega (arith, is.0)) is.3, is.2), tt))))))))),
       refl,
     ))
 
@@ -330,17 +233,13 @@ abbrev some_answer : AnswerDecl
 some_answer = answers.Sum some_name some_name
 
 abbrev some_array : ArrayDecl
-some_array = record { name = some_name; size = some_num; states = some_state ∷ []; steps = some_step ∷ [] }
+some_array = record { name = some_name; size = some_num; states = some_state ∷ []; entries = []; steps = some_step ∷ [] }
 
 some_array_is : (n : ℕ) → IsArray n some_array
-some_array_is n = (array_deep n some_array (some_sum_is (suc n), tt) (omega arith, tt), omega arith, omega arith)
+some_array_is n = (array_deep n some_array (some_sum_is (suc n), tt) (some_step_is n, tt), omega arith, omega arith, (tt, tt))
 
 some_answers_are : Some {A = AnswerDecl} always (some_answer ∷ [])
 some_answers_are = ((tt, tt), omega arith)
-
-all_always : {A : Type 0} (xs : List A) → AllByRecursion always xs
-all_always [] = tt
-all_always (x ∷ xs) = (tt, all_always xs)
 
 pub job_sound : (n : ℕ) → Sound Job (IsJobAt n) job_spelling (job_at n)
 job_sound n = dressed_sound (IsJobAt n) job_spelling (job_at n) of_job (λ x. refl) (job_same n)
@@ -416,12 +315,6 @@ pub some_job_is : (n : ℕ) → IsJobAt n some_job
 some_job_is n = (some_array_is n, some_answers_are.1)
 
 -- ---- an item is a token at least
-
-pub stmt_shrinks : (n : ℕ) → Shrinks (stmt_at n)
-stmt_shrinks n = shorter (stmt_sound n) stmt_solid
-
-pub step_shrinks : (n : ℕ) → Shrinks (step_at n)
-step_shrinks n = shorter (step_sound n) step_solid
 
 pub state_shrinks : (n : ℕ) → Shrinks (state_at n)
 state_shrinks n = shorter (state_sound n) state_solid

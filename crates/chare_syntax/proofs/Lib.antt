@@ -8,6 +8,10 @@ pub mod Many
 pub mod Loops
 pub mod Sums
 pub mod Levels
+pub mod Listed
+pub mod Blocks
+pub mod Optional
+pub mod Entry
 pub mod Jobs
 pub mod Accepts
 pub mod Grows

@@ -32,6 +32,7 @@ spelt n ts job e is = record {
   shallow = omega (arith, is.0.0);
   some_states = is.0.1;
   some_steps = is.0.2;
+  filled_steps = is.0.3;
   some_answers = is.1;
 }
 
@@ -67,6 +68,7 @@ wider n m ts h b = (
     shallow = omega (arith, b.2.shallow);
     some_states = b.2.some_states;
     some_steps = b.2.some_steps;
+    filled_steps = b.2.filled_steps;
     some_answers = b.2.some_answers;
   },
 )

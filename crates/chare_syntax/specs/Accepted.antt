@@ -1,14 +1,29 @@
 -- Which tokens are a job, and the fault of those that are none.
 use Rattle.std.specs.Prelude.{◌≡◌, ℕ, true, ◌<◌, ◌≤◌, List, [], ◌∷◌, ◌++◌, map, length}
+use Rattle.std.specs.List.{AllByRecursion}
 use Rattle.chare_syntax.specs.declared.fault.ParseFault.{ParseFault}
 use Rattle.chare_syntax.specs.declared.fault.ParseFault.TheVariants as faults
 use Rattle.chare_syntax.specs.declared.token.Kind.{Kind}
 use Rattle.chare_syntax.specs.declared.token.Kind.TheVariants as kinds
 use Rattle.chare_syntax.specs.declared.token.Token.{Token}
 use Rattle.chare_syntax.specs.declared.tree.Job.{Job}
+use Rattle.chare_syntax.specs.declared.tree.StepDecl.{StepDecl}
+use Rattle.chare_syntax.specs.declared.tree.StepDecl.TheVariants as steps
+use Rattle.chare_syntax.specs.declared.tree.StmtDecl.{StmtDecl}
+use Rattle.chare_syntax.specs.declared.tree.StmtDecl.TheVariants as stmts
 use Rattle.chare_syntax.specs.Spelling.{job_spelling}
 use Rattle.chare_syntax.specs.Depth.{job_depth}
 use Rattle.chare_syntax.specs.Tokens.{is_last}
+
+-- a `send` has a value
+abbrev pub StmtFilled : StmtDecl → Type 0
+StmtFilled (stmts.Assign target value) = Unit {0}
+StmtFilled (stmts.Send send) = 0 < length send.values
+
+-- a `when` has a name, and each `send` a value
+abbrev pub StepFilled : StepDecl → Type 0
+StepFilled (steps.Block block) = AllByRecursion StmtFilled block
+StepFilled (steps.When w) = (0 < length w.names) × AllByRecursion StmtFilled w.block
 
 -- the tokens are those that a job is spelled by, and the end; so many levels of nesting at most are open
 pub record Spells (levels : ℕ) (tokens : List Token) (job : Job) : Type 0 where
@@ -16,6 +31,7 @@ pub record Spells (levels : ℕ) (tokens : List Token) (job : Job) : Type 0 wher
   pub shallow : job_depth job ≤ levels
   pub some_states : 0 < length job.array.states
   pub some_steps : 0 < length job.array.steps
+  pub filled_steps : AllByRecursion StepFilled job.array.steps
   pub some_answers : 0 < length job.answers
 
 -- the tokens are those of this job

@@ -1,6 +1,7 @@
 -- How many levels of nesting a tree opens: braces, brackets, and minus signs before their operand.
 use Rattle.std.specs.Prelude.{ℕ, suc, max, List, [], ◌∷◌, map}
 use Rattle.chare_syntax.specs.declared.tree.ArrayDecl.{ArrayDecl}
+use Rattle.chare_syntax.specs.declared.tree.EntryDecl.{EntryDecl}
 use Rattle.chare_syntax.specs.declared.tree.Job.{Job}
 use Rattle.chare_syntax.specs.declared.tree.StateDecl.{StateDecl}
 use Rattle.chare_syntax.specs.declared.tree.StepDecl.{StepDecl}
@@ -43,16 +44,26 @@ sum_depth = fold-Sum ℕ ℕ ℕ ℕ ℕ ℕ atom_levels unary_levels product_le
 abbrev pub state_depth : StateDecl → ℕ
 state_depth s = sum_depth s.start
 
+-- the brackets around what is sent open a level
 abbrev pub stmt_depth : StmtDecl → ℕ
 stmt_depth (stmts.Assign target value) = sum_depth value
+stmt_depth (stmts.Send send) = suc (deepest (map sum_depth send.values))
 
--- a step's block opens a level
+abbrev pub block_depth : List StmtDecl → ℕ
+block_depth block = suc (deepest (map stmt_depth block))
+
+-- a step's block opens a level, and so do the brackets before it
 abbrev pub step_depth : StepDecl → ℕ
-step_depth (steps.Block block) = suc (deepest (map stmt_depth block))
+step_depth (steps.Block block) = block_depth block
+step_depth (steps.When w) = max 1 (block_depth w.block)
+
+-- an entry's brackets open a level each, one after the other
+abbrev pub entry_depth : EntryDecl → ℕ
+entry_depth e = 1
 
 -- an array's braces open a level, and so do those of its size
 abbrev pub array_depth : ArrayDecl → ℕ
-array_depth a = suc (max (deepest (map state_depth a.states)) (deepest (map step_depth a.steps)))
+array_depth a = suc (max (deepest (map state_depth a.states)) (max (deepest (map entry_depth a.entries)) (deepest (map step_depth a.steps))))
 
 abbrev pub job_depth : Job → ℕ
 job_depth j = array_depth j.array

@@ -1,5 +1,5 @@
 -- Reading tokens from the left: the shape of the reader, of which its proof speaks.
-use Rattle.std.specs.Prelude.{ℕ, zero, suc, Bool, true, false, if◌then◌else◌, ◌==◌, List, [], ◌∷◌, length, Option, Some, None, Result, Ok, Err}
+use Rattle.std.specs.Prelude.{ℕ, zero, suc, Bool, true, false, if◌then◌else◌, ◌==◌, ◌||◌, List, [], ◌∷◌, length, Option, Some, None, Result, Ok, Err}
 use Rattle.chare_base.specs.declared.expression.AddOp.{AddOp}
 use Rattle.chare_base.specs.declared.expression.AddOp.TheVariants as adds
 use Rattle.chare_base.specs.declared.expression.MulOp.{MulOp}
@@ -16,9 +16,13 @@ use Rattle.chare_syntax.specs.declared.tree.AnswerDecl.TheVariants as answers
 use Rattle.chare_syntax.specs.declared.tree.ArrayDecl.{ArrayDecl}
 use Rattle.chare_syntax.specs.declared.tree.Atom.{Atom}
 use Rattle.chare_syntax.specs.declared.tree.Atom.TheVariants as atoms
+use Rattle.chare_syntax.specs.declared.tree.EdgeDecl.{EdgeDecl}
+use Rattle.chare_syntax.specs.declared.tree.EdgeDecl.TheVariants as edges
+use Rattle.chare_syntax.specs.declared.tree.EntryDecl.{EntryDecl}
 use Rattle.chare_syntax.specs.declared.tree.Job.{Job}
 use Rattle.chare_syntax.specs.declared.tree.Product.{Product, roll-Product}
 use Rattle.chare_syntax.specs.declared.tree.ProductTerm.{ProductTerm, roll-ProductTerm}
+use Rattle.chare_syntax.specs.declared.tree.SignedNum.{SignedNum}
 use Rattle.chare_syntax.specs.declared.tree.StateDecl.{StateDecl}
 use Rattle.chare_syntax.specs.declared.tree.StepDecl.{StepDecl}
 use Rattle.chare_syntax.specs.declared.tree.StepDecl.TheVariants as steps
@@ -95,6 +99,10 @@ is_mul k = told (mul_of k)
 abbrev pub is_name : Kind → Bool
 is_name k = told (name_of k)
 
+-- a statement begins so
+abbrev pub is_stmt : Kind → Bool
+is_stmt k = is_name k || is_mark marks.Send k
+
 unfoldable pub name_at : List Token → Read Span
 name_at = one name_of
 
@@ -127,6 +135,21 @@ many on item ts = many_at on item (length ts) ts
 -- at least one
 abbrev pub some : {A : Type 0} → (Kind → Bool) → (List Token → Read A) → List Token → Read (List A)
 some on item ts = item ts >>= λ x. many on item x.1 >>= λ xs. Ok (x.0 ∷ xs.0, xs.1)
+
+-- an item behind a mark
+abbrev pub behind : {A : Type 0} → Mark → (List Token → Read A) → List Token → Read A
+behind mark item ts = do
+  sign ← mark_at mark ts
+  x ← item sign.1
+  Ok (x.0, x.1)
+
+-- at least one, with a mark between them
+abbrev pub listed : {A : Type 0} → Mark → (List Token → Read A) → List Token → Read (List A)
+listed mark item ts = item ts >>= λ x. many (is_mark mark) (behind mark item) x.1 >>= λ xs. Ok (x.0 ∷ xs.0, xs.1)
+
+-- one if the next token begins one, else none
+abbrev pub optional : {A : Type 0} → (Kind → Bool) → (List Token → Read A) → List Token → Read (Option A)
+optional on item ts = if goes on ts then (item ts >>= λ x. Ok (Some x.0, x.1)) else Ok (None, ts)
 
 -- no level may be opened
 abbrev pub refuse : {A : Type 0} → List Token → Read A
@@ -213,23 +236,74 @@ sum_at n = sum_with (product_with (level n))
 
 -- ---- declarations
 
-unfoldable pub stmt_at : ℕ → List Token → Read StmtDecl
-stmt_at n ts = do
+unfoldable pub assign_at : ℕ → List Token → Read StmtDecl
+assign_at n ts = do
   target ← name_at ts
   assign ← mark_at marks.Assign target.1
   value ← sum_at n assign.1
   Ok (stmts.Assign target.0 value.0, value.1)
 
+unfoldable pub next_value_at : ℕ → List Token → Read Sum
+next_value_at n = behind marks.Comma (sum_at n)
+
+unfoldable pub values_at : ℕ → List Token → Read (List Sum)
+values_at n = listed marks.Comma (sum_at n)
+
+-- n: the levels that a value may open
+unfoldable pub send_at : ℕ → List Token → Read StmtDecl
+send_at n ts = do
+  word ← mark_at marks.Send ts
+  array ← name_at word.1
+  dot ← mark_at marks.Dot array.1
+  entry ← name_at dot.1
+  opened ← mark_at marks.OpenParen entry.1
+  values ← values_at n opened.1
+  closed ← mark_at marks.CloseParen values.1
+  Ok (stmts.Send (record { array = array.0; entry = entry.0; values = values.0 }), closed.1)
+
+-- where no level may be opened, nothing can be sent
+abbrev pub sends_at : ℕ → List Token → Read StmtDecl
+sends_at zero = refuse
+sends_at (suc n) = send_at n
+
+unfoldable pub stmt_at : ℕ → List Token → Read StmtDecl
+stmt_at n ts = if goes (is_mark marks.Send) ts then sends_at n ts else assign_at n ts
+
 unfoldable pub stmts_at : ℕ → List Token → Read (List StmtDecl)
-stmts_at n = many is_name (stmt_at n)
+stmts_at n = many is_stmt (stmt_at n)
+
+unfoldable pub block_at : ℕ → List Token → Read (List StmtDecl)
+block_at n ts = do
+  opened ← mark_at marks.OpenBrace ts
+  block ← stmts_at n opened.1
+  closed ← mark_at marks.CloseBrace block.1
+  Ok (block.0, closed.1)
+
+unfoldable pub next_name_at : List Token → Read Span
+next_name_at = behind marks.Comma name_at
+
+unfoldable pub names_at : List Token → Read (List Span)
+names_at = listed marks.Comma name_at
+
+unfoldable pub when_at : ℕ → List Token → Read StepDecl
+when_at n ts = do
+  word ← mark_at marks.When ts
+  port ← name_at word.1
+  opened ← mark_at marks.OpenParen port.1
+  names ← names_at opened.1
+  closed ← mark_at marks.CloseParen names.1
+  block ← block_at n closed.1
+  Ok (steps.When (record { port = port.0; names = names.0; block = block.0 }), block.1)
+
+-- what stands behind the word `step`
+unfoldable pub part_at : ℕ → List Token → Read StepDecl
+part_at n ts = if goes (is_mark marks.When) ts then when_at n ts else (block_at n ts >>= λ b. Ok (steps.Block b.0, b.1))
 
 unfoldable pub step_at : ℕ → List Token → Read StepDecl
 step_at n ts = do
   word ← mark_at marks.Step ts
-  opened ← mark_at marks.OpenBrace word.1
-  block ← stmts_at n opened.1
-  closed ← mark_at marks.CloseBrace block.1
-  Ok (steps.Block block.0, closed.1)
+  part ← part_at n word.1
+  Ok (part.0, part.1)
 
 unfoldable pub steps_at : ℕ → List Token → Read (List StepDecl)
 steps_at n = some (is_mark marks.Step) (step_at n)
@@ -247,6 +321,55 @@ state_at n ts = do
 unfoldable pub states_at : ℕ → List Token → Read (List StateDecl)
 states_at n = some (is_mark marks.State) (state_at n)
 
+-- ---- entries: the level that their brackets open is there wherever a step's brace is
+
+unfoldable pub sign_at : List Token → Read Bool
+sign_at ts = optional (is_mark marks.Minus) (mark_at marks.Minus) ts >>= λ sign. Ok (told sign.0, sign.1)
+
+unfoldable pub signed_at : List Token → Read SignedNum
+signed_at ts = do
+  sign ← sign_at ts
+  number ← num_at sign.1
+  Ok (record { negative = sign.0; number = number.0 }, number.1)
+
+unfoldable pub count_at : List Token → Read Num
+count_at ts = do
+  opened ← mark_at marks.OpenParen ts
+  count ← num_at opened.1
+  closed ← mark_at marks.CloseParen count.1
+  Ok (count.0, closed.1)
+
+unfoldable pub counted_at : List Token → Read (Option Num)
+counted_at = optional (is_mark marks.OpenParen) count_at
+
+unfoldable pub wrap_at : List Token → Read EdgeDecl
+wrap_at ts = mark_at marks.Wrap ts >>= λ word. Ok (edges.Wrap, word.1)
+
+unfoldable pub else_at : List Token → Read EdgeDecl
+else_at ts = do
+  word ← mark_at marks.Else ts
+  value ← signed_at word.1
+  Ok (edges.Else value.0, value.1)
+
+unfoldable pub edge_at : List Token → Read EdgeDecl
+edge_at ts = if goes (is_mark marks.Wrap) ts then wrap_at ts else else_at ts
+
+unfoldable pub entry_at : List Token → Read EntryDecl
+entry_at ts = do
+  word ← mark_at marks.Entry ts
+  name ← name_at word.1
+  values ← counted_at name.1
+  from ← mark_at marks.From values.1
+  source ← name_at from.1
+  opened ← mark_at marks.OpenBracket source.1
+  offset ← signed_at opened.1
+  closed ← mark_at marks.CloseBracket offset.1
+  edge ← edge_at closed.1
+  Ok (record { name = name.0; values = values.0; source = source.0; offset = offset.0; edge = edge.0 }, edge.1)
+
+unfoldable pub entries_at : List Token → Read (List EntryDecl)
+entries_at = many (is_mark marks.Entry) entry_at
+
 -- n: the levels that a statement may open
 unfoldable pub array_at : ℕ → List Token → Read ArrayDecl
 array_at n ts = do
@@ -257,9 +380,10 @@ array_at n ts = do
   closed ← mark_at marks.CloseBracket size.1
   begun ← mark_at marks.OpenBrace closed.1
   states ← states_at (suc n) begun.1
-  steps ← steps_at n states.1
+  entries ← entries_at states.1
+  steps ← steps_at n entries.1
   ended ← mark_at marks.CloseBrace steps.1
-  Ok (record { name = name.0; size = size.0; states = states.0; steps = steps.0 }, ended.1)
+  Ok (record { name = name.0; size = size.0; states = states.0; entries = entries.0; steps = steps.0 }, ended.1)
 
 unfoldable pub answer_at : List Token → Read AnswerDecl
 answer_at ts = do

@@ -1,5 +1,5 @@
 -- The tokens that a tree is spelled by: the grammar of the job language.
-use Rattle.std.specs.Prelude.{List, [], ◌∷◌, ◌++◌}
+use Rattle.std.specs.Prelude.{Bool, true, false, List, [], ◌∷◌, ◌++◌, Option, Some, None}
 use Rattle.std.specs.List.{flat_map}
 use Rattle.chare_base.specs.declared.expression.AddOp.{AddOp}
 use Rattle.chare_base.specs.declared.expression.AddOp.TheVariants as adds
@@ -7,17 +7,26 @@ use Rattle.chare_base.specs.declared.expression.MulOp.{MulOp}
 use Rattle.chare_base.specs.declared.expression.MulOp.TheVariants as muls
 use Rattle.chare_syntax.specs.declared.token.Kind.{Kind}
 use Rattle.chare_syntax.specs.declared.token.Kind.TheVariants.{Name, Number, Mark}
+use Rattle.chare_syntax.specs.declared.token.Mark.{Mark as AnyMark}
 use Rattle.chare_syntax.specs.declared.token.Mark.TheVariants as marks
+use Rattle.chare_syntax.specs.declared.token.Span.{Span}
+use Rattle.chare_syntax.specs.declared.token.Num.{Num}
 use Rattle.chare_syntax.specs.declared.tree.AnswerDecl.{AnswerDecl}
 use Rattle.chare_syntax.specs.declared.tree.AnswerDecl.TheVariants as answers
 use Rattle.chare_syntax.specs.declared.tree.ArrayDecl.{ArrayDecl}
+use Rattle.chare_syntax.specs.declared.tree.EdgeDecl.{EdgeDecl}
+use Rattle.chare_syntax.specs.declared.tree.EdgeDecl.TheVariants as edges
+use Rattle.chare_syntax.specs.declared.tree.EntryDecl.{EntryDecl}
 use Rattle.chare_syntax.specs.declared.tree.Job.{Job}
+use Rattle.chare_syntax.specs.declared.tree.SendDecl.{SendDecl}
+use Rattle.chare_syntax.specs.declared.tree.SignedNum.{SignedNum}
 use Rattle.chare_syntax.specs.declared.tree.StateDecl.{StateDecl}
 use Rattle.chare_syntax.specs.declared.tree.StepDecl.{StepDecl}
 use Rattle.chare_syntax.specs.declared.tree.StepDecl.TheVariants as steps
 use Rattle.chare_syntax.specs.declared.tree.StmtDecl.{StmtDecl}
 use Rattle.chare_syntax.specs.declared.tree.StmtDecl.TheVariants as stmts
 use Rattle.chare_syntax.specs.declared.tree.Sum.{Sum}
+use Rattle.chare_syntax.specs.declared.tree.WhenDecl.{WhenDecl}
 use Rattle.chare_syntax.specs.declared.tree.Atom.TheOpen.{Atom-F, Product-F, ProductTerm-F, Sum-F, SumTerm-F, Unary-F}
 use Rattle.chare_syntax.specs.declared.tree.Atom.TheFolds.{fold-Sum}
 
@@ -35,6 +44,14 @@ mul_mark muls.Times = Mark marks.Times
 abbrev pub joined : List Kinds → Kinds
 joined [] = []
 joined (k ∷ more) = k ++ joined more
+
+abbrev pub behind_mark : {A : Type 0} → AnyMark → (A → Kinds) → A → Kinds
+behind_mark mark spell x = Mark mark ∷ spell x
+
+-- one after another, with a mark between them
+abbrev pub separated : {A : Type 0} → AnyMark → (A → Kinds) → List A → Kinds
+separated mark spell [] = []
+separated mark spell (x ∷ xs) = spell x ++ flat_map (behind_mark mark spell) xs
 
 abbrev pub atom_step : Atom-F Kinds Kinds Kinds Kinds Kinds Kinds → Kinds
 atom_step (Atom-F.Number n) = Number n ∷ []
@@ -64,16 +81,64 @@ sum_spelling = fold-Sum Kinds Kinds Kinds Kinds Kinds Kinds atom_step unary_step
 abbrev pub state_spelling : StateDecl → Kinds
 state_spelling s = Mark marks.State ∷ Name s.name ∷ Mark marks.Colon ∷ Mark marks.Int ∷ Mark marks.Assign ∷ sum_spelling s.start
 
+abbrev pub send_spelling : SendDecl → Kinds
+send_spelling s =
+    Mark marks.Send ∷ Name s.array ∷ Mark marks.Dot ∷ Name s.entry ∷ Mark marks.OpenParen
+    ∷ (separated marks.Comma sum_spelling s.values ++ Mark marks.CloseParen ∷ [])
+
 abbrev pub stmt_spelling : StmtDecl → Kinds
 stmt_spelling (stmts.Assign target value) = Name target ∷ Mark marks.Assign ∷ sum_spelling value
+stmt_spelling (stmts.Send send) = send_spelling send
+
+abbrev pub block_spelling : List StmtDecl → Kinds
+block_spelling block = Mark marks.OpenBrace ∷ (flat_map stmt_spelling block ++ Mark marks.CloseBrace ∷ [])
+
+abbrev pub name_spelling : Span → Kinds
+name_spelling span = Name span ∷ []
+
+abbrev pub when_spelling : WhenDecl → Kinds
+when_spelling w =
+    Mark marks.When ∷ Name w.port ∷ Mark marks.OpenParen
+    ∷ (separated marks.Comma name_spelling w.names ++ Mark marks.CloseParen ∷ block_spelling w.block)
+
+-- what stands behind the word `step`
+abbrev pub part_spelling : StepDecl → Kinds
+part_spelling (steps.Block block) = block_spelling block
+part_spelling (steps.When w) = when_spelling w
 
 abbrev pub step_spelling : StepDecl → Kinds
-step_spelling (steps.Block block) = Mark marks.Step ∷ Mark marks.OpenBrace ∷ (flat_map stmt_spelling block ++ Mark marks.CloseBrace ∷ [])
+step_spelling s = Mark marks.Step ∷ part_spelling s
+
+-- a part that may be missing
+abbrev pub maybe : {A : Type 0} → (A → Kinds) → Option A → Kinds
+maybe spell (Some x) = spell x
+maybe spell None = []
+
+-- the sign of a number
+abbrev pub sign_spelling : Bool → Kinds
+sign_spelling true = Mark marks.Minus ∷ []
+sign_spelling false = []
+
+abbrev pub signed_spelling : SignedNum → Kinds
+signed_spelling s = sign_spelling s.negative ++ Number s.number ∷ []
+
+abbrev pub edge_spelling : EdgeDecl → Kinds
+edge_spelling edges.Wrap = Mark marks.Wrap ∷ []
+edge_spelling (edges.Else value) = Mark marks.Else ∷ signed_spelling value
+
+-- how many values a message has
+abbrev pub count_spelling : Num → Kinds
+count_spelling n = Mark marks.OpenParen ∷ Number n ∷ Mark marks.CloseParen ∷ []
+
+abbrev pub entry_spelling : EntryDecl → Kinds
+entry_spelling e =
+    Mark marks.Entry ∷ Name e.name ∷ (maybe count_spelling e.values ++ Mark marks.From ∷ Name e.source ∷ Mark marks.OpenBracket
+    ∷ (signed_spelling e.offset ++ Mark marks.CloseBracket ∷ edge_spelling e.edge))
 
 abbrev pub array_spelling : ArrayDecl → Kinds
 array_spelling a =
     Mark marks.Array ∷ Name a.name ∷ Mark marks.OpenBracket ∷ Number a.size ∷ Mark marks.CloseBracket ∷ Mark marks.OpenBrace
-    ∷ (flat_map state_spelling a.states ++ (flat_map step_spelling a.steps ++ Mark marks.CloseBrace ∷ []))
+    ∷ (flat_map state_spelling a.states ++ (flat_map entry_spelling a.entries ++ (flat_map step_spelling a.steps ++ Mark marks.CloseBrace ∷ [])))
 
 abbrev pub answer_spelling : AnswerDecl → Kinds
 answer_spelling (answers.Sum array state) = Mark marks.Answer ∷ Mark marks.Sum ∷ Name array ∷ Mark marks.Dot ∷ Name state ∷ []

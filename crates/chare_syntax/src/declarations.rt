@@ -1,82 +1,18 @@
-//! Reader of declarations. `levels` is how many levels of nesting may still be opened.
+//! Readers of declarations. `levels` is how many levels of nesting may still be opened.
 
 ghost use Rattle.std.specs.Prelude.{◌≡◌, ◌<◌, ◌≤◌, ◌+◌, length, IfOk};
 ghost use Rattle.chare_syntax.specs.Fault.{Gives};
-ghost use Rattle.chare_syntax.specs.Reading.{stmt_at, stmts_at, step_at, steps_at, state_at, states_at, array_at, answer_at, answers_at, job_at};
+ghost use Rattle.chare_syntax.specs.Reading.{state_at, states_at, array_at, answer_at, answers_at, job_at};
 
+use crate::entries::entries_of;
 use crate::expressions::sum_of;
 use crate::fault::ParseFault;
-use crate::leaves::{begins, begins_name, behind, name_of, num_of};
+use crate::leaves::{begins, behind, name_of, num_of};
+use crate::statements::steps_of;
 use crate::token::{Mark, Token};
-use crate::tree::{AnswerDecl, ArrayDecl, Job, StateDecl, StepDecl, StmtDecl};
+use crate::tree::{AnswerDecl, ArrayDecl, Job, StateDecl};
 use sqlite_items::Items;
 use std::alloc::Global;
-
-// Reads a statement.
-#[tactic(auto, unfolding(crate::specs::Reading::stmt_at))]
-fn stmt_of(alloc: Global, tokens: &[Token], levels: u32) -> Result<(StmtDecl, &[Token]), ParseFault>
-    ensures exact { Gives (λ x. (x.0, x.1.now)) result (stmt_at levels tokens.now) }
-    ensures shorter { IfOk result (λ x. length x.1.now < length tokens.now) }
-{
-    let (target, rest) = name_of(tokens)?;
-    let rest = behind(rest, Mark::Assign)?;
-    let (value, rest) = sum_of(alloc, rest, levels)?;
-    Ok((StmtDecl::Assign { target, value }, rest))
-}
-
-// Reads the statements of a block.
-#[tactic(auto, unfolding(crate::specs::Reading::stmts_at))]
-fn stmts_of(
-    alloc: Global,
-    tokens: &[Token],
-    levels: u32,
-) -> Result<(Items<StmtDecl>, &[Token]), ParseFault>
-    ensures exact { Gives (λ x. (x.0, x.1.now)) result (stmts_at levels tokens.now) }
-    ensures shorter { IfOk result (λ x. length x.1.now ≤ length tokens.now) }
-{
-    let mut rest = tokens;
-    let mut block = Items::new(alloc);
-    'statements: while begins_name(rest) {
-        let (statement, after) = stmt_of(alloc, rest, levels)?;
-        block.push(statement)?;
-        rest = after;
-    }
-    Ok((block, rest))
-}
-
-// Reads a step.
-#[tactic(auto, unfolding(crate::specs::Reading::step_at))]
-fn step_of(alloc: Global, tokens: &[Token], levels: u32) -> Result<(StepDecl, &[Token]), ParseFault>
-    ensures exact { Gives (λ x. (x.0, x.1.now)) result (step_at levels tokens.now) }
-    ensures shorter { IfOk result (λ x. length x.1.now < length tokens.now) }
-{
-    let rest = behind(tokens, Mark::Step)?;
-    let rest = behind(rest, Mark::OpenBrace)?;
-    let (block, rest) = stmts_of(alloc, rest, levels)?;
-    let rest = behind(rest, Mark::CloseBrace)?;
-    Ok((StepDecl::Block(block), rest))
-}
-
-// Reads steps, of which there is one at least.
-#[tactic(auto, unfolding(crate::specs::Reading::steps_at))]
-fn steps_of(
-    alloc: Global,
-    tokens: &[Token],
-    levels: u32,
-) -> Result<(Items<StepDecl>, &[Token]), ParseFault>
-    ensures exact { Gives (λ x. (x.0, x.1.now)) result (steps_at levels tokens.now) }
-    ensures shorter { IfOk result (λ x. length x.1.now < length tokens.now) }
-{
-    let (first, mut rest) = step_of(alloc, tokens, levels)?;
-    let mut steps = Items::new(alloc);
-    steps.push(first)?;
-    'steps: while begins(rest, Mark::Step) {
-        let (step, after) = step_of(alloc, rest, levels)?;
-        steps.push(step)?;
-        rest = after;
-    }
-    Ok((steps, rest))
-}
 
 // Reads a state variable.
 #[tactic(auto, unfolding(crate::specs::Reading::state_at))]
@@ -136,6 +72,7 @@ fn array_of(
     let rest = behind(rest, Mark::CloseBracket)?;
     let rest = behind(rest, Mark::OpenBrace)?;
     let (states, rest) = states_of(alloc, rest, levels + 1)?;
+    let (entries, rest) = entries_of(alloc, rest)?;
     let (steps, rest) = steps_of(alloc, rest, levels)?;
     let rest = behind(rest, Mark::CloseBrace)?;
     Ok((
@@ -143,6 +80,7 @@ fn array_of(
             name,
             size,
             states,
+            entries,
             steps,
         },
         rest,

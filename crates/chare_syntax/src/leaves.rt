@@ -2,7 +2,7 @@
 
 ghost use Rattle.std.specs.Prelude.{◌≡◌, ◌<◌, length, IfOk, List, [], ◌∷◌};
 ghost use Rattle.chare_syntax.specs.Fault.{Gives, wrong_fault, place};
-ghost use Rattle.chare_syntax.specs.Reading.{goes, is_mark, is_name, add_of, mul_of, leaf_of, told, is_add, is_mul, name_at, num_at, mark_at, add_at, mul_at, leaf_at, end_at};
+ghost use Rattle.chare_syntax.specs.Reading.{goes, is_mark, is_name, is_stmt, add_of, mul_of, leaf_of, told, is_add, is_mul, name_at, num_at, mark_at, add_at, mul_at, leaf_at, end_at};
 
 use crate::fault::ParseFault;
 use crate::token::{Kind, Mark, Num, Span, Token};
@@ -29,12 +29,12 @@ pub fn begins(tokens: &[Token], mark: Mark) -> bool
     }
 }
 
-/// Whether the first token is a name.
-pub fn begins_name(tokens: &[Token]) -> bool
-    ensures { result ≡ goes is_name tokens.now }
+/// Whether a statement begins with the first token.
+pub fn begins_stmt(tokens: &[Token]) -> bool
+    ensures { result ≡ goes is_stmt tokens.now }
 {
     match tokens.first() {
-        Some(token) => is_name(token.kind),
+        Some(token) => is_name(token.kind) || is_mark(token.kind, Mark::Send),
         None => false,
     }
 }

@@ -21,12 +21,13 @@ pub struct Job {
     pub answers: Items<AnswerDecl>,
 }
 
-/// `array NAME [ NUM ] { state.. step.. }`, with at least one of each.
+/// `array NAME [ NUM ] { state.. entry.. step.. }`, with at least one state and one step.
 #[derive(Drop)]
 pub struct ArrayDecl {
     pub name: Span,
     pub size: Num,
     pub states: Items<StateDecl>,
+    pub entries: Items<EntryDecl>,
     pub steps: Items<StepDecl>,
 }
 
@@ -37,10 +38,50 @@ pub struct StateDecl {
     pub start: Sum,
 }
 
-/// `step { statement.. }`.
+/// `entry NAME [ ( NUM ) ] from NAME [ snum ] edge`: messages between elements of an array.
+#[derive(Clone, Copy, Debug, PartialEq, Eq)]
+pub struct EntryDecl {
+    pub name: Span,
+    /// How many values a message has, where the text says it.
+    pub values: Option<Num>,
+    /// The array whose elements send.
+    pub source: Span,
+    /// Where the sender stands, counted from the receiver.
+    pub offset: SignedNum,
+    pub edge: EdgeDecl,
+}
+
+/// What an element beyond the array's edge gives.
+#[derive(Clone, Copy, Debug, PartialEq, Eq)]
+pub enum EdgeDecl {
+    /// `wrap`: the element counted on from the other edge.
+    Wrap,
+    /// `else snum`: this number.
+    Else(SignedNum),
+}
+
+/// `[ - ] NUM`.
+#[derive(Clone, Copy, Debug, PartialEq, Eq)]
+pub struct SignedNum {
+    pub negative: bool,
+    pub number: Num,
+}
+
+/// A step of an iteration.
 #[derive(Drop)]
 pub enum StepDecl {
+    /// `step { statement.. }`.
     Block(Items<StmtDecl>),
+    /// `step when ..`.
+    When(WhenDecl),
+}
+
+/// `when PORT ( NAME , .. ) { statement.. }`, with at least one name: a block that runs with a message's values.
+#[derive(Drop)]
+pub struct WhenDecl {
+    pub port: Span,
+    pub names: Items<Span>,
+    pub block: Items<StmtDecl>,
 }
 
 /// A statement of a block.
@@ -48,6 +89,16 @@ pub enum StepDecl {
 pub enum StmtDecl {
     /// `NAME = sum`.
     Assign { target: Span, value: Sum },
+    /// `send ..`.
+    Send(SendDecl),
+}
+
+/// `send ARRAY . ENTRY ( sum , .. )`, with at least one value.
+#[derive(Drop)]
+pub struct SendDecl {
+    pub array: Span,
+    pub entry: Span,
+    pub values: Items<Sum>,
 }
 
 /// A line of what the job answers.

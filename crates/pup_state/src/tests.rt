@@ -5,6 +5,7 @@ use crate::pack::pack_all;
 use chare_base::bytes::{Bytes, Name};
 use chare_base::cells::{Cells, CellsList, Slip};
 use chare_base::expression::{AddOp, Expr, Term};
+use chare_base::message::Need;
 use chare_base::plan::{Answer, Array, ElementId, How, Part, Plan, State, Step, Stmt};
 use sqlite_items::{Boxed, Items};
 use std::alloc::Global;
@@ -19,6 +20,7 @@ fn plan(alloc: Global) -> Result<Plan, Fail> {
     };
     let grown = Expr::Sum(Boxed::new(alloc, Expr::Cell(0))?, only(alloc, one)?);
     let part = Part {
+        need: Need::Nothing,
         block: only(
             alloc,
             Stmt::Set {
@@ -46,7 +48,8 @@ fn plan(alloc: Global) -> Result<Plan, Fail> {
         state: 0,
     };
     let name = Name::from_slice(alloc, b"one")?;
-    let plan = Plan::sealed(name, 3, only(alloc, array)?, only(alloc, answer)?);
+    let entries = Items::new(alloc);
+    let plan = Plan::sealed(name, 3, only(alloc, array)?, entries, only(alloc, answer)?);
     Ok(plan.ok_or("the rules hold")?)
 }
 

@@ -7,7 +7,7 @@
 //! `specs/Queue`; a refused message changes nothing. Putting, taking and looking are logarithmic in the keys
 //! held, and only putting takes memory.
 //!
-//! An element's object will hold its messages so. The program doesn't use this crate yet.
+//! An element's object (`object_steps`) holds its messages so.
 #![tactic(auto)]
 
 pub mod fault;

@@ -75,6 +75,13 @@ impl RefQueue {
         self.held.contains_key(&key)
     }
 
+    /// The message under a key, if one is held. It stays.
+    pub fn get(&self, key: RefKey) -> Option<Payload>
+        ensures { result ≡ message self.now key }
+    {
+        self.held.get(&key).copied()
+    }
+
     /// Holds a message under its key.
     ///
     /// `Old`: its iteration is before `now`. `Held`: its iteration isn't, and a message is held under its key.
@@ -166,7 +173,9 @@ mod tests {
         queue.put(key(6, 1), one(61))?;
         queue.put(key(5, 1), one(51))?;
         assert_eq!(rt; queue.len(), 4);
+        assert_eq!(rt; queue.get(key(5, 1)), Some(one(51)));
         assert_eq!(rt; queue.take(key(5, 1)), Some(one(51)));
+        assert_eq!(rt; queue.get(key(5, 1)), None);
         assert_eq!(rt; queue.take(key(7, 1)), Some(one(71)));
         assert_eq!(rt; queue.take(key(7, 1)), None);
         assert_eq!(rt; queue.take(key(6, 2)), None);

@@ -4,9 +4,10 @@ use crate::report::report;
 use chare_base::bytes::Name;
 use chare_base::expression::{AddOp, Expr, Term};
 use chare_base::memory::Memory;
+use chare_base::message::Need;
 use chare_base::options::{Mode, Options};
 use chare_base::plan::{Answer, Array, How, Part, Plan, State, Step, Stmt};
-use chare_eval::plain::plain_run;
+use object_steps::plain::plain_run;
 use pup_state::pack::pack_all;
 use sqlite_items::{Boxed, Items};
 use std::alloc::Global;
@@ -52,6 +53,7 @@ fn array(
     value: Expr,
 ) -> Result<Array, Memory> {
     let part = Part {
+        need: Need::Nothing,
         block: only(alloc, Stmt::Set { cell, value })?,
     };
     let step = Step {
@@ -113,7 +115,7 @@ fn one_element_counts_to_eight(rt: HostRuntime) -> Result<(), Fail> {
     let name = Name::from_slice(alloc, b"one")?;
     let arrays = only(alloc, counting(alloc)?)?;
     let answers = only(alloc, sum_of(0, 0))?;
-    let plan = Plan::sealed(name, 3, arrays, answers).ok_or("the rules hold")?;
+    let plan = Plan::sealed(name, 3, arrays, Items::new(alloc), answers).ok_or("the rules hold")?;
     let first = "job one nodes 1 every 10 spares 0 mode strong\naccepted 3 bytes 44 sha256 ";
     let digest = "7b4b479a3c8654d5b635eed43d60491aa9e79a86172d233292e92f92755eec88";
     let last = " strikes 0 0\nanswer sum A.t 8\nslips 0\nend done\n";
@@ -126,7 +128,7 @@ fn two_arrays_answer_by_name(rt: HostRuntime) -> Result<(), Fail> {
     let name = Name::from_slice(alloc, b"two")?;
     let arrays = both(alloc, counting(alloc)?, falling(alloc)?)?;
     let answers = both(alloc, sum_of(1, 1), sum_of(0, 0))?;
-    let plan = Plan::sealed(name, 1, arrays, answers).ok_or("the rules hold")?;
+    let plan = Plan::sealed(name, 1, arrays, Items::new(alloc), answers).ok_or("the rules hold")?;
     let options = Options {
         nodes: 2,
         every: 5,

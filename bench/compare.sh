@@ -1,0 +1,23 @@
+# Sourced by the scripts beside it: times `acr drill` and the same loops in C, and compares their answers.
+# usage: compare NAME ITERATIONS WORK UNIT    (WORK holds NAME.job and NAME.c; UNIT is what is counted per second)
+compare() {
+  local name=$1 iterations=$2 work=$3 unit=$4
+  local program ours plain
+  program=$(cd "$(dirname "${BASH_SOURCE[0]}")" && pwd)/../crates/acr/out/acr
+  cc -O2 -o "$work/$name" "$work/$name.c"
+  ours=$(seconds "$program" drill <"$work/$name.job")
+  grep '^answer' "$work/out" >"$work/ours"
+  plain=$(seconds "$work/$name" "$iterations")
+  cmp "$work/ours" "$work/out" && echo "answers agree"
+  echo "$unit per second, both replicas: $(echo "2 * 4096 * $iterations / $ours" | bc)"
+  echo "seconds: acr $ours, C $plain, ratio $(echo "scale=1; $ours / $plain" | bc)"
+}
+
+# How long a command takes; what it writes goes to `out` in the folder of work.
+seconds() {
+  local start end
+  start=$(date +%s.%N)
+  "$@" >"$work/out"
+  end=$(date +%s.%N)
+  echo "$end - $start" | bc
+}

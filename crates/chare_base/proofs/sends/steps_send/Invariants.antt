@@ -1,0 +1,10 @@
+use Rattle.std.proofs.Common.{◌≡◌, ◌+◌, ◌≤◌, drop}
+use Rattle.std.specs.Prelude.{min}
+use Rattle.chare_base.specs.Ports.{steps_send}
+use Rattle.chare_base.proofs.sends.steps_send.Given as goal
+
+abbrev pub invariant-loop-step : goal.invariant-loop-step
+invariant-loop-step l = record {
+  told : min 2 (l.count + steps_send l.number (drop l.step-index l.steps)) ≡ min 2 (steps_send l.number l.steps);
+  few : l.count ≤ 2;
+}

@@ -1,0 +1,14 @@
+use Rattle.std.proofs.Common.{◌≡◌, ◌<◌, length}
+use Rattle.chare_syntax.specs.declared.token.Mark.TheVariants as marks
+use Rattle.chare_syntax.specs.Reading.{many, is_mark, next_value_at, values_at}
+use Rattle.chare_syntax.proofs.Loops.{with_front}
+use Rattle.chare_syntax.proofs.statements.values_of.Given as goal
+
+abbrev pub invariant-values : goal.invariant-values
+invariant-values l = record {
+  told : with_front l.values (many (is_mark marks.Comma) (next_value_at l.levels) l.rest) ≡ values_at l.levels l.tokens;
+  shorter : length l.rest < length l.tokens;
+}
+
+abbrev pub decreases-values : goal.decreases-values
+decreases-values l = length l.rest
