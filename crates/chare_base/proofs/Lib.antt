@@ -1,4 +1,9 @@
-pub mod Facts
+pub mod Apart
+pub mod Covered
 pub mod Exchanges
+pub mod Facts
+pub mod Grid
+pub mod Joined
 pub mod Neighbours
 pub mod Sendings
+pub mod Sharing

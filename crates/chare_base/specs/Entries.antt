@@ -1,5 +1,5 @@
 -- Which elements exchange messages at an entry.
-use Rattle.std.specs.Prelude.{ℕ, ◌<◌, zero, suc, ◌+◌, ℤ, pos, negsuc, ◌+ℤ◌, ◌-ℤ◌, nat_lt, if◌then◌else◌, List, take, replicate, slice_get, slice_set, unsigned_abs, Option, Some, None}
+use Rattle.std.specs.Prelude.{ℕ, ◌<◌, zero, suc, ◌+◌, ◌*◌, ◌/◌, ◌%◌, ℤ, pos, negsuc, ◌+ℤ◌, ◌-ℤ◌, nat_lt, if◌then◌else◌, List, replicate, slice_get, slice_set, unsigned_abs, Option, Some, None}
 use Rattle.std.specs.Int.{int_rem_euclid}
 use Rattle.std.specs.Option.{option_map_or}
 use Rattle.chare_base.specs.declared.message.Payload.{Payload}
@@ -11,38 +11,57 @@ use Rattle.chare_base.specs.declared.plan.Edge.TheVariants.{Wrap, Else}
 use Rattle.chare_base.specs.declared.plan.ElementId.{ElementId}
 use Rattle.chare_base.specs.declared.plan.Entry.{Entry}
 use Rattle.chare_base.specs.declared.plan.Plan.{Plan}
-use Rattle.chare_base.specs.Limits.{elements_in}
+use Rattle.chare_base.specs.declared.plan.Reduction.{Reduction}
 use Rattle.chare_base.specs.Elements.{place_of}
 
--- the entry of a number
+-- the entry and the reduction of a number
 abbrev pub entry_of : Plan → ℕ → Option Entry
 entry_of p x = slice_get p.entries x
 
--- the number of an array's first element
-abbrev pub first_of : List Array → ℕ → ℕ
-first_of arrays number = elements_in (take number arrays)
+abbrev pub reduction_of : Plan → ℕ → Option Reduction
+reduction_of p r = slice_get p.reductions r
 
--- how many elements an array has
+-- what an array of a number has, nothing where there is no such array
+abbrev pub first_of : List Array → ℕ → ℕ
+first_of arrays number = option_map_or (λ a. a.first) (slice_get arrays number) 0
+
+abbrev pub rows_of : List Array → ℕ → ℕ
+rows_of arrays number = option_map_or (λ a. a.rows) (slice_get arrays number) 0
+
 abbrev pub cols_of : List Array → ℕ → ℕ
 cols_of arrays number = option_map_or (λ a. a.cols) (slice_get arrays number) 0
 
--- a place, where it lies within an array of so many elements
+-- a coordinate, where it lies within a size
 abbrev pub inside : ℕ → ℤ → Option ℕ
-inside cols (pos i) = if nat_lt i cols then Some i else None
-inside cols (negsuc i) = None
+inside size (pos i) = if nat_lt i size then Some i else None
+inside size (negsuc i) = None
 
--- The index of the element at a place of an array: with wrap its ends meet, else there may be none.
-abbrev pub neighbour : Edge → ℕ → ℤ → Option ℕ
-neighbour Wrap cols place = Some (unsigned_abs (int_rem_euclid place (pos cols)))
-neighbour (Else value) cols place = inside cols place
+-- A coordinate of a neighbour: with wrap the ends meet, else there may be none.
+abbrev pub coordinate : Edge → ℕ → ℤ → Option ℕ
+coordinate Wrap size place = Some (unsigned_abs (int_rem_euclid place (pos size)))
+coordinate (Else value) size place = inside size place
 
--- the index of the element that sends to the one at an index
+-- the index at a row and a column, where both are there
+abbrev pub index_at : ℕ → Option ℕ → Option ℕ → Option ℕ
+index_at cols (Some row) (Some col) = Some (row * cols + col)
+index_at cols (Some row) None = None
+index_at cols None col = None
+
+-- the index of the element at a row and a column of an array of so many rows and columns
+abbrev pub neighbour : Edge → ℕ → ℕ → ℤ → ℤ → Option ℕ
+neighbour edge rows cols row col = index_at cols (coordinate edge rows row) (coordinate edge cols col)
+
+-- The index of the element that sends to the one at an index. Both arrays have one shape.
 abbrev pub source_index : List Array → Entry → ℕ → Option ℕ
-source_index arrays entry index = neighbour entry.edge (cols_of arrays entry.source) (pos index +ℤ entry.across)
+source_index arrays entry index =
+    neighbour entry.edge (rows_of arrays entry.source) (cols_of arrays entry.source)
+    (pos (index / cols_of arrays entry.source) +ℤ entry.down) (pos (index % cols_of arrays entry.source) +ℤ entry.across)
 
 -- the index of the element that receives from the one at an index
 abbrev pub target_index : List Array → Entry → ℕ → Option ℕ
-target_index arrays entry index = neighbour entry.edge (cols_of arrays entry.owner) (pos index -ℤ entry.across)
+target_index arrays entry index =
+    neighbour entry.edge (rows_of arrays entry.owner) (cols_of arrays entry.owner)
+    (pos (index / cols_of arrays entry.owner) -ℤ entry.down) (pos (index % cols_of arrays entry.owner) -ℤ entry.across)
 
 -- so many values, from the first on
 abbrev pub filled : ℕ → ℤ → List ℤ

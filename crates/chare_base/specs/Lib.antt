@@ -1,9 +1,17 @@
+pub mod Sizes
 pub mod Limits
+pub mod Layout
 pub mod Ranges
 pub mod Names
 pub mod Ports
+pub mod PortKeys
+pub mod Costs
+pub mod Uses
+pub mod Overlap
+pub mod Rules
 pub mod Elements
 pub mod Entries
 pub mod Laws
+pub mod Total
 pub mod Flip
 pub mod Shape

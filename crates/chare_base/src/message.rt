@@ -6,11 +6,17 @@ use crate::plan::ElementId;
 #[derive(Clone, Copy, Debug, PartialEq, Eq, PartialOrd, Ord)]
 pub struct EntryId(pub u16);
 
-/// What a message is sent to, within an element.
+/// A reduction's number: reductions are numbered over the whole job, in text order, from 0.
+#[derive(Clone, Copy, Debug, PartialEq, Eq, PartialOrd, Ord)]
+pub struct ReductionId(pub u16);
+
+/// Where an element receives once in each iteration.
 #[derive(Clone, Copy, Debug, PartialEq, Eq, PartialOrd, Ord)]
 pub enum Port {
-    /// An entry of the element's array.
+    /// An entry of the element's array: the message of the element that is its source there.
     Entry(EntryId),
+    /// A reduction of the element's array: the total of what all its elements contributed.
+    Total(ReductionId),
 }
 
 /// What a part of a step waits for.
@@ -33,7 +39,7 @@ pub enum Source {
 /// What a message carries.
 #[derive(Clone, Copy, Debug, PartialEq, Eq)]
 pub struct Payload {
-    /// How many values there are, from 1 to 8.
+    /// How many values there are, from 1 to 8. A total has one.
     pub count: u8,
     /// The values in the order they were sent; those past `count` are 0.
     pub values: [i64; 8],

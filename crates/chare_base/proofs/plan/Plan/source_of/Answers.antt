@@ -1,6 +1,0 @@
-use Rattle.chare_base.proofs.Neighbours.{source_within}
-use Rattle.chare_base.proofs.plan.Plan.source_of.Goals as goal
-
-pub returns-clause-element : goal.returns-clause-element
-returns-clause-element c =
-    source_within c.args.self.now c.args.entry.0 c.entry-entry.result.now c.entry-entry.ensures c.as_slice.result.now c.place.result.index c.source_in.result c.as_slice.ensures c.source_in.ensures

@@ -1,8 +1,0 @@
-use Rattle.std.proofs.Common.{◌≡◌, drop}
-use Rattle.std.specs.Prelude.{◌&&◌}
-use Rattle.chare_base.specs.Ports.{ports_from}
-use Rattle.chare_base.proofs.sends.ports_hold.Given as goal
-
--- what holds so far, and of what is left
-abbrev pub invariant-loop-number : goal.invariant-loop-number
-invariant-loop-number l = (l.holds && ports_from l.arrays l.number (drop l.number l.entries)) ≡ ports_from l.arrays 0 l.entries
