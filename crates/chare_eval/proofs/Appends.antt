@@ -1,52 +1,67 @@
--- What a block sends is put behind what was sent before.
-use Rattle.std.proofs.Common.{◌≡◌, ℕ, List, [], ◌∷◌, ◌++◌, refl, ap, sym, ◌∙◌, append_assoc}
+-- What was sent before stays in front.
+use Rattle.std.proofs.Common.{◌≡◌, ℕ, ℤ, List, [], ◌∷◌, ◌++◌, refl, ap, sym, ◌∙◌, append_assoc}
+use Rattle.std.proofs.lemmas.List.{append-nil}
 use Rattle.chare_base.specs.declared.cells.Cells.{Cells}
+use Rattle.chare_base.specs.declared.cells.Slip.{Slip}
 use Rattle.chare_base.specs.declared.message.Payload.{Payload}
 use Rattle.chare_base.specs.declared.plan.Plan.{Plan}
-use Rattle.chare_base.specs.declared.plan.Stmt.{Stmt}
-use Rattle.chare_base.specs.declared.plan.Stmt.TheVariants.{Set, Send}
-use Rattle.chare_base.specs.Elements.{block_at, place_of}
+use Rattle.chare_base.specs.declared.plan.Stmt.{Stmt, out-Stmt}
+use Rattle.chare_base.specs.declared.plan.Stmt.TheOpen.{Stmt-F}
 use Rattle.chare_base.specs.Entries.{target_of}
 use Rattle.chare_eval.specs.declared.effects.Outgoing.{Outgoing}
+use Rattle.chare_eval.specs.declared.effects.Outgoing.TheVariants.{Contribution}
 use Rattle.chare_eval.specs.declared.value.Scene.{Scene}
-use Rattle.chare_eval.specs.Block.{Effect, act, acts, block, parcels, payload_of, quiet, scene_of}
+use Rattle.chare_eval.specs.Value.{least_kind}
+use Rattle.chare_eval.specs.Block.{Run, Top, block_runs, computed, filled_of, parcels, payload_of, quiet, scene_of, slip_after, top_step, top_acts}
 
--- the same, with this sent before
-abbrev pub behind : List Outgoing → Effect → Effect
-behind sent f = record { cells = f.cells; sent = sent ++ f.sent }
+abbrev pub behind : List Outgoing → Top → Top
+behind s t = record { run = t.run; sent = s ++ t.sent }
 
-act_behind : (p : Plan) (e : ℕ) (scene : Scene) (s : Stmt) (sent : List Outgoing) (f : Effect) → act p e scene s (behind sent f) ≡ behind sent (act p e scene s f)
-act_behind p e scene (Set at value) sent f = refl
-act_behind p e scene (Send entry values) sent f =
-    ap (λ (l : List Outgoing). record { cells = f.cells; sent = l }) (append_assoc sent f.sent (parcels entry (target_of p entry.0 e) (payload_of values scene f.cells.numbers)))
+sent_behind : (slip : ℕ) (more s : List Outgoing) (t : Top) →
+    record { run = record { scene = t.run.scene; cells = t.run.cells; slip = slip }; sent = (s ++ t.sent) ++ more } ≡ behind s (record { run = record { scene = t.run.scene; cells = t.run.cells; slip = slip }; sent = t.sent ++ more })
+sent_behind slip more s t = ap (λ l. record { run = record { scene = t.run.scene; cells = t.run.cells; slip = slip }; sent = l }) (append_assoc s t.sent more)
 
-pub acts_behind : (p : Plan) (e : ℕ) (scene : Scene) (block : List Stmt) (sent : List Outgoing) (f : Effect) → acts p e scene block (behind sent f) ≡ behind sent (acts p e scene block f)
-acts_behind p e scene [] sent f = refl
-acts_behind p e scene (s ∷ more) sent f = ap (acts p e scene more) (act_behind p e scene s sent f) ∙ acts_behind p e scene more sent (act p e scene s f)
+module _ (p : Plan) (e : ℕ) where
+  step_behind : (x : Stmt) (y : Stmt-F Stmt) (s : List Outgoing) (t : Top) → top_step p e x y (behind s t) ≡ behind s (top_step p e x y t)
+  step_behind x (Stmt-F.Send entry values) s t =
+      let f = filled_of values t.run in
+      sent_behind f.slip (parcels entry (target_of p entry.0 e) (payload_of values f)) s t
+  step_behind x (Stmt-F.Contribute reduction value) s t =
+      let c = computed value t.run in
+      sent_behind (least_kind t.run.slip c.slip) (Contribution reduction c.value ∷ []) s t
+  step_behind x (Stmt-F.Set at value) s t = refl
+  step_behind x (Stmt-F.SetAt at count place value) s t = refl
+  step_behind x (Stmt-F.If test a b) s t = refl
+  step_behind x (Stmt-F.For slot low high block) s t = refl
 
-append_nil : (l : List Outgoing) → l ++ [] ≡ l
-append_nil [] = refl
-append_nil (x ∷ l) = ap (λ m. x ∷ m) (append_nil l)
+  acts_behind : (xs : List Stmt) (s : List Outgoing) (t : Top) → top_acts p e xs (behind s t) ≡ behind s (top_acts p e xs t)
+  acts_behind [] s t = refl
+  acts_behind (x ∷ xs) s t = ap (top_acts p e xs) (step_behind x (out-Stmt x) s t) ∙ acts_behind xs s (top_step p e x (out-Stmt x) t)
 
--- a block's effect, whatever was sent before
-pub block_effect : (p : Plan) (e : ℕ) (scene : Scene) (block : List Stmt) (cells : Cells) (sent : List Outgoing) (f : Effect) →
-    f ≡ acts p e scene block (record { cells = cells; sent = sent }) → (f.cells ≡ (acts p e scene block (quiet cells)).cells) × (f.sent ≡ sent ++ (acts p e scene block (quiet cells)).sent)
-block_effect p e scene block cells sent f is =
-    let nil : record { cells = cells; sent = sent } ≡ behind sent (quiet cells) = ap (λ (l : List Outgoing). record { cells = cells; sent = l }) (sym (append_nil sent)) in
-    let whole : f ≡ behind sent (acts p e scene block (quiet cells)) = is ∙ ap (acts p e scene block) nil ∙ acts_behind p e scene block sent (quiet cells) in
-    (ap (λ (g : Effect). g.cells) whole, ap (λ (g : Effect). g.sent) whole)
+  pub top_acts_from : (xs : List Stmt) (run : Run) (s : List Outgoing) → top_acts p e xs (record { run = run; sent = s }) ≡ behind s (top_acts p e xs (record { run = run; sent = [] }))
+  top_acts_from xs run s = ap (λ l. top_acts p e xs (record { run = run; sent = l })) (sym (append-nil s)) ∙ acts_behind xs s (record { run = run; sent = [] })
 
-pub block_told : (p : Plan) (e : ℕ) (scene : Scene) (block : List Stmt) (cells : Cells) (sent sent' : List Outgoing) (f : Effect) →
-    sent ≡ sent' → f ≡ acts p e scene block (record { cells = cells; sent = sent }) →
-    (f.cells ≡ (acts p e scene block (quiet cells)).cells) × (f.sent ≡ sent' ++ (acts p e scene block (quiet cells)).sent)
-block_told p e scene block cells sent sent' f s is =
-    block_effect p e scene block cells sent' f (is ∙ ap (λ (l : List Outgoing). acts p e scene block (record { cells = cells; sent = l })) s)
+abbrev top : Scene → List ℤ → ℕ → List Outgoing → Top
+top scene n kind s = record { run = record { scene = scene; cells = n; slip = kind }; sent = s }
 
--- a part's statements in its element's scene are its block
-pub block_is : (p : Plan) (e s q index : ℕ) (payload : Payload) (scene : Scene) (stmts stmts' : List Stmt) (cells : Cells) → scene ≡ record { index = index; values = payload.values } → index ≡ (place_of p e).index →
-    stmts ≡ stmts' → stmts' ≡ block_at p e s q → acts p e scene stmts (quiet cells) ≡ block p e s q payload cells
-unfolding scene_of
-block_is p e s q index payload scene stmts stmts' cells is at same there =
-    ap (λ x. acts p e x stmts (quiet cells)) is
-    ∙ ap (λ i. acts p e (record { index = i; values = payload.values }) stmts (quiet cells)) at
-    ∙ ap (λ l. acts p e (scene_of p e payload) l (quiet cells)) (same ∙ there)
+-- what a run of a part told is what the part does
+module _ (p : Plan) (e step iteration : ℕ) (xs : List Stmt) (payload : Payload) (cells : Cells) (before s s' : List Outgoing) (scene scene' : Scene) (n' : List ℤ) (kind : ℕ) (slip : Slip)
+    (at : scene ≡ scene_of p e iteration payload) (room : s ≡ before)
+    (ran : top scene' n' kind s' ≡ top_acts p e xs (top scene cells.numbers 0 s))
+    (kept : slip ≡ slip_after step iteration kind cells.slip) where
+  start : Run
+  start = record { scene = scene_of p e iteration payload; cells = cells.numbers; slip = 0 }
+
+  same : top scene' n' kind s' ≡ behind before (top_acts p e xs (record { run = start; sent = [] }))
+  unfolding start
+  same = ran ∙ ap (λ (x : Scene). top_acts p e xs (top x cells.numbers 0 s)) at
+      ∙ ap (λ l. top_acts p e xs (record { run = start; sent = l })) room ∙ top_acts_from p e xs start before
+
+  pub part_cells : record { numbers = n'; slip = slip } ≡ (block_runs p e step iteration xs payload (quiet cells)).cells
+  unfolding start
+  part_cells = ap (λ k. let c : Cells = record { numbers = n'; slip = k } in c) kept
+      ∙ ap (λ (t : Top). let c : Cells = record { numbers = t.run.cells; slip = slip_after step iteration t.run.slip cells.slip } in c) same
+
+  pub part_sent : s' ≡ before ++ (block_runs p e step iteration xs payload (quiet cells)).sent
+  unfolding start
+  part_sent = ap (λ (t : Top). t.sent) same

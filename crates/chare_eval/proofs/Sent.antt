@@ -1,32 +1,34 @@
--- What a step of an element sends: once for each of its sends, each to the element's receiver.
-use Rattle.std.proofs.Common.{◌≡◌, ℕ, ◌+◌, ◌<◌, ◌≤◌, Bool, true, false, cond, List, [], ◌∷◌, ◌++◌, refl, ap, sym, ◌∙◌, arith, Option, Some, None, IsSome, subst}
+-- What a step of an element sends: once for each of its sends, each message to the element's receiver.
+use Rattle.std.proofs.Common.{◌≡◌, ℕ, ◌+◌, ◌<◌, ◌≤◌, ◌⊎◌, ℤ, Bool, true, false, cond, List, [], ◌∷◌, ◌++◌, length, refl, ap, sym, ◌∙◌, arith, append_assoc, Option, Some, None, inl, inr, subst}
 use Rattle.std.specs.Prelude.{◌==◌, ◌&&◌, unwrap_or}
 use Rattle.std.specs.List.{AllByRecursion}
 use Rattle.std.specs.Option.{option_or}
 use Rattle.std.proofs.lemmas.Bool.{eqb-true}
 use Rattle.std.proofs.lemmas.Bool.Decides.{nat_tests}
+use Rattle.std.proofs.lemmas.List.{append-nil}
 use Rattle.std.proofs.lemmas.Option.{same_Some}
 use Rattle.chare_base.specs.declared.message.EntryId.{EntryId}
 use Rattle.chare_base.specs.declared.message.Need.{Need}
 use Rattle.chare_base.specs.declared.message.Need.TheVariants as needs
 use Rattle.chare_base.specs.declared.message.Payload.{Payload}
 use Rattle.chare_base.specs.declared.message.Port.{Port}
+use Rattle.chare_base.specs.declared.message.ReductionId.{ReductionId}
+use Rattle.chare_base.specs.declared.cells.Cells.{Cells}
 use Rattle.chare_base.specs.declared.message.Port.TheVariants as ports
 use Rattle.chare_base.specs.declared.plan.ElementId.{ElementId}
 use Rattle.chare_base.specs.declared.plan.Part.{Part}
 use Rattle.chare_base.specs.declared.plan.Plan.{Plan}
-use Rattle.chare_base.specs.declared.plan.Stmt.{Stmt}
-use Rattle.chare_base.specs.declared.plan.Stmt.TheVariants.{Set, Send}
+use Rattle.chare_base.specs.declared.plan.Stmt.{Stmt, out-Stmt}
+use Rattle.chare_base.specs.declared.plan.Stmt.TheOpen.{Stmt-F}
+use Rattle.chare_base.specs.Elements.{parts_at}
 use Rattle.chare_base.specs.Entries.{nothing, target_of}
-use Rattle.chare_base.specs.Ports.{is_port, stmt_sends, block_sends, parts_send, takes, parts_take}
+use Rattle.chare_base.specs.Ports.{block_sends, counted, entry_port, fed_by, parts_send, parts_take, takes, total_port}
+use Rattle.chare_base.proofs.Sendings.{counted_own}
 use Rattle.chare_eval.specs.declared.effects.Outgoing.{Outgoing}
-use Rattle.chare_eval.specs.declared.effects.Outgoing.TheVariants.{Parcel}
-use Rattle.chare_eval.specs.declared.value.Scene.{Scene}
-use Rattle.chare_eval.specs.Block.{Effect, act, acts, parcels, payload_of, scene_of}
-use Rattle.chare_eval.specs.Stage.{Inbox, given, held, parts_run}
-
-abbrev pub port : ℕ → Port
-port x = ports.Entry (record { 0 = x })
+use Rattle.chare_eval.specs.declared.effects.Outgoing.TheVariants.{Parcel, Contribution}
+use Rattle.chare_eval.specs.Block.{Effect, Top, block_runs, computed, filled_of, parcels, payload_of, quiet, scene_of, top_acts, top_step}
+use Rattle.chare_eval.specs.Stage.{Inbox, contributions, given, parcel_held, part_runs, parts_run, step_of}
+use Rattle.chare_eval.specs.Laws.{AnySent, SentTo}
 
 -- ---- what is held
 
@@ -34,72 +36,106 @@ pick : (b : Bool) (x : Payload) (q m : Option Payload) → cond b (Some x) (opti
 pick true x q m = refl
 pick false x q m = refl
 
-pub held_append : (ls ms : List Outgoing) (e : ℕ) (at : Port) → held (ls ++ ms) e at ≡ option_or (held ls e at) (held ms e at)
-held_append [] ms e at = refl
-held_append (Parcel entry to payload ∷ ls) ms e at =
-    ap (λ r. cond (to.0 == e && is_port entry.0 at) (Some payload) r) (held_append ls ms e at)
-    ∙ pick (to.0 == e && is_port entry.0 at) payload (held ls e at) (held ms e at)
+pub held_append : (ls ms : List Outgoing) (e x : ℕ) → parcel_held (ls ++ ms) e x ≡ option_or (parcel_held ls e x) (parcel_held ms e x)
+held_append [] ms e x = refl
+held_append (Parcel entry to payload ∷ ls) ms e x =
+    ap (λ r. cond (to.0 == e && entry.0 == x) (Some payload) r) (held_append ls ms e x) ∙ pick (to.0 == e && entry.0 == x) payload (parcel_held ls e x) (parcel_held ms e x)
+held_append (Contribution reduction value ∷ ls) ms e x = held_append ls ms e x
 
 pub or_none : (q : Option Payload) → option_or q None ≡ q
 or_none None = refl
 or_none (Some x) = refl
 
--- ---- how many messages of an entry are in a list
+pick_value : (b : Bool) (v : ℤ) (xs ys : List ℤ) → cond b (v ∷ (xs ++ ys)) (xs ++ ys) ≡ cond b (v ∷ xs) xs ++ ys
+pick_value true v xs ys = refl
+pick_value false v xs ys = refl
 
-abbrev pub is_of : ℕ → Outgoing → ℕ
-is_of x (Parcel entry to payload) = cond (entry.0 == x) 1 0
+pub contributions_append : (ls ms : List Outgoing) (r : ℕ) → contributions (ls ++ ms) r ≡ contributions ls r ++ contributions ms r
+contributions_append [] ms r = refl
+contributions_append (Parcel entry to payload ∷ ls) ms r = contributions_append ls ms r
+contributions_append (Contribution reduction value ∷ ls) ms r =
+    ap (λ l. cond (reduction.0 == r) (value ∷ l) l) (contributions_append ls ms r) ∙ pick_value (reduction.0 == r) value (contributions ls r) (contributions ms r)
 
-abbrev pub many : ℕ → List Outgoing → ℕ
-many x [] = 0
-many x (l ∷ ls) = is_of x l + many x ls
+-- ---- how often a port is sent to in a list
 
-pub many_append : (x : ℕ) (ls ms : List Outgoing) → many x (ls ++ ms) ≡ many x ls + many x ms
-many_append x [] ms = omega arith
-many_append x (l ∷ ls) ms = omega (arith, many_append x ls ms)
+abbrev pub out_port : Outgoing → Port
+out_port (Parcel entry to payload) = ports.Entry entry
+out_port (Contribution reduction value) = ports.Total reduction
 
--- a message of an entry is found at its port
-turned : (a b : ℕ) → (a == b) ≡ (b == a)
-turned a b = grind (arith, nat_tests)
+abbrev pub many : Port → List Outgoing → ℕ
+many port [] = 0
+many port (l ∷ ls) = counted port (Some (out_port l)) + many port ls
+
+pub many_append : (port : Port) (ls ms : List Outgoing) → many port (ls ++ ms) ≡ many port ls + many port ms
+many_append port [] ms = omega arith
+many_append port (l ∷ ls) ms = omega (arith, many_append port ls ms)
 
 -- where there is none, nothing is held
-pub none_held : (ls : List Outgoing) (e x : ℕ) → many x ls ≡ 0 → held ls e (port x) ≡ None
+pub none_held : (ls : List Outgoing) (e x : ℕ) → many (entry_port x) ls ≡ 0 → parcel_held ls e x ≡ None
 none_held [] e x h = refl
-none_held (Parcel entry to payload ∷ ls) e x h =
-    ap (λ b. cond (to.0 == e && b) (Some payload) (held ls e (port x))) (turned x entry.0) ∙ skip (to.0 == e) (entry.0 == x) h (none_held ls e x)
+none_held (Parcel entry to payload ∷ ls) e x h = skip (to.0 == e) (entry.0 == x) h (none_held ls e x)
   where
-    skip : (a b : Bool) → cond b 1 0 + many x ls ≡ 0 → (many x ls ≡ 0 → held ls e (port x) ≡ None) → cond (a && b) (Some payload) (held ls e (port x)) ≡ None
+    skip : (a b : Bool) → cond b 1 0 + many (entry_port x) ls ≡ 0 → (many (entry_port x) ls ≡ 0 → parcel_held ls e x ≡ None) → cond (a && b) (Some payload) (parcel_held ls e x) ≡ None
     skip a true h rest = absurd (omega arith)
     skip true false h rest = rest (omega arith)
     skip false false h rest = rest (omega arith)
+none_held (Contribution reduction value ∷ ls) e x h = none_held ls e x (omega (arith, h))
+
+-- as many contributions as there are
+pub contributions_many : (ls : List Outgoing) (r : ℕ) → length (contributions ls r) ≡ many (total_port r) ls
+contributions_many [] r = refl
+contributions_many (Parcel entry to payload ∷ ls) r = omega (arith, contributions_many ls r)
+contributions_many (Contribution reduction value ∷ ls) r = by (reduction.0 == r) (contributions_many ls r)
+  where
+    by : (b : Bool) → length (contributions ls r) ≡ many (total_port r) ls → length (cond b (value ∷ contributions ls r) (contributions ls r)) ≡ cond b 1 0 + many (total_port r) ls
+    by true h = omega (arith, h)
+    by false h = omega (arith, h)
 
 self : (n : ℕ) → (n == n) ≡ true
 self n = grind (arith, nat_tests)
 
-itself : (entry : EntryId) (to : ElementId) (payload : Payload) → is_of entry.0 (Parcel entry to payload) ≡ 1
-itself entry to payload = ap {B = ℕ} (λ b. cond b 1 0) (self entry.0)
-
-first_held : (entry : EntryId) (to : ElementId) (payload : Payload) (ls : List Outgoing) → held (Parcel entry to payload ∷ ls) to.0 (port entry.0) ≡ Some payload
+first_held : (entry : EntryId) (to : ElementId) (payload : Payload) (ls : List Outgoing) → parcel_held (Parcel entry to payload ∷ ls) to.0 entry.0 ≡ Some payload
 first_held entry to payload ls =
-    ap (λ b. cond (b && entry.0 == entry.0) (Some payload) (held ls to.0 (port entry.0))) (self to.0) ∙ ap (λ b. cond b (Some payload) (held ls to.0 (port entry.0))) (self entry.0)
+    ap (λ b. cond (b && entry.0 == entry.0) (Some payload) (parcel_held ls to.0 entry.0)) (self to.0) ∙ ap (λ b. cond b (Some payload) (parcel_held ls to.0 entry.0)) (self entry.0)
 
--- of an entry that is there once
-module _ (before after : List Outgoing) (entry : EntryId) (to : ElementId) (payload : Payload) (once : many entry.0 (before ++ Parcel entry to payload ∷ after) ≤ 1) where
-  pub none_before : many entry.0 before ≡ 0
-  none_before = omega (arith, once, many_append entry.0 before (Parcel entry to payload ∷ after), itself entry to payload)
+-- one of a port that is there once
+module _ (before after : List Outgoing) (l : Outgoing) (once : many (out_port l) (before ++ l ∷ after) ≤ 1) where
+  pub none_before : many (out_port l) before ≡ 0
+  none_before = omega (arith, once, many_append (out_port l) before (l ∷ after), counted_own (out_port l))
 
-  pub one_held : held (before ++ Parcel entry to payload ∷ after) to.0 (port entry.0) ≡ Some payload
-  one_held =
-      held_append before (Parcel entry to payload ∷ after) to.0 (port entry.0)
-      ∙ ap (λ q. option_or q (held (Parcel entry to payload ∷ after) to.0 (port entry.0))) (none_held before to.0 entry.0 none_before)
-      ∙ first_held entry to payload after
+  pub none_after : many (out_port l) after ≡ 0
+  none_after = omega (arith, once, many_append (out_port l) before (l ∷ after), counted_own (out_port l))
 
-pub some_there : (before after : List Outgoing) (entry : EntryId) (to : ElementId) (payload : Payload) → 0 < many entry.0 (before ++ Parcel entry to payload ∷ after)
-some_there before after entry to payload = omega (arith, many_append entry.0 before (Parcel entry to payload ∷ after), itself entry to payload)
+pub one_held : (before after : List Outgoing) (entry : EntryId) (to : ElementId) (payload : Payload) → many (ports.Entry entry) (before ++ Parcel entry to payload ∷ after) ≤ 1 →
+    parcel_held (before ++ Parcel entry to payload ∷ after) to.0 entry.0 ≡ Some payload
+one_held before after entry to payload once =
+    held_append before (Parcel entry to payload ∷ after) to.0 entry.0
+    ∙ ap (λ q. option_or q (parcel_held (Parcel entry to payload ∷ after) to.0 entry.0)) (none_held before to.0 entry.0 (none_before before after (Parcel entry to payload) once))
+    ∙ first_held entry to payload after
+
+pub none_contributed : (ls : List Outgoing) (r : ℕ) → many (total_port r) ls ≡ 0 → contributions ls r ≡ []
+none_contributed ls r h = by (contributions ls r) (contributions_many ls r)
+  where
+    by : (l : List ℤ) → length l ≡ many (total_port r) ls → l ≡ []
+    by [] n = refl
+    by (v ∷ l) n = absurd (omega (arith, n, h))
+
+pub one_contributed : (before after : List Outgoing) (r : ReductionId) (value : ℤ) → many (ports.Total r) (before ++ Contribution r value ∷ after) ≤ 1 →
+    contributions (before ++ Contribution r value ∷ after) r.0 ≡ value ∷ []
+one_contributed before after r value once =
+    contributions_append before (Contribution r value ∷ after) r.0
+    ∙ ap (λ l. l ++ contributions (Contribution r value ∷ after) r.0) (none_contributed before r.0 (none_before before after (Contribution r value) once))
+    ∙ ap (λ b. cond b (value ∷ contributions after r.0) (contributions after r.0)) (self r.0)
+    ∙ ap (λ l. value ∷ l) (none_contributed after r.0 (none_after before after (Contribution r value) once))
+
+pub some_there : (before after : List Outgoing) (l : Outgoing) → 0 < many (out_port l) (before ++ l ∷ after)
+some_there before after l = omega (arith, many_append (out_port l) before (l ∷ after), counted_own (out_port l))
 
 -- ---- whom an element's messages go to
 
 abbrev pub Aimed : Plan → ℕ → Outgoing → Type 0
 Aimed p e (Parcel entry to payload) = target_of p entry.0 e ≡ Some to
+Aimed p e (Contribution reduction value) = Unit {0}
 
 all_append : (P : Outgoing → Type 0) (ls ms : List Outgoing) → AllByRecursion P ls → AllByRecursion P ms → AllByRecursion P (ls ++ ms)
 all_append P [] ms a b = b
@@ -119,110 +155,146 @@ all_placed P done (l ∷ ls) f = (f done ls l refl, all_placed P (done ++ l ∷ 
     shift (d ∷ done) l ls = ap (λ m. d ∷ m) (shift done l ls)
 
 -- what goes to other receivers isn't held for this one
-pub aimed_other : (p : Plan) (f e x : ℕ) (ls : List Outgoing) → AllByRecursion (Aimed p f) ls → ((to : ElementId) → to.0 ≡ e → target_of p x f ≡ Some to → ⊥) → held ls e (port x) ≡ None
+pub aimed_other : (p : Plan) (f e x : ℕ) (ls : List Outgoing) → AllByRecursion (Aimed p f) ls → ((to : ElementId) → to.0 ≡ e → target_of p x f ≡ Some to → ⊥) → parcel_held ls e x ≡ None
 aimed_other p f e x [] all other = refl
 aimed_other p f e x (Parcel entry to payload ∷ ls) all other =
-    skip (to.0 == e) (x == entry.0) (λ a b. other to (eqb-true to.0 e a) (ap (λ n. target_of p n f) (eqb-true x entry.0 b) ∙ all.0)) (aimed_other p f e x ls all.1 other)
+    skip (to.0 == e) (entry.0 == x) (λ a b. other to (eqb-true to.0 e a) (ap (λ n. target_of p n f) (sym (eqb-true entry.0 x b)) ∙ all.0)) (aimed_other p f e x ls all.1 other)
   where
-    skip : (a b : Bool) → (a ≡ true → b ≡ true → ⊥) → held ls e (port x) ≡ None → cond (a && b) (Some payload) (held ls e (port x)) ≡ None
+    skip : (a b : Bool) → (a ≡ true → b ≡ true → ⊥) → parcel_held ls e x ≡ None → cond (a && b) (Some payload) (parcel_held ls e x) ≡ None
     skip true true h rest = absurd (h refl refl)
     skip true false h rest = rest
     skip false b h rest = rest
+aimed_other p f e x (Contribution reduction value ∷ ls) all other = aimed_other p f e x ls all.1 other
 
--- and what goes to this one is
-pub aimed_held : (p : Plan) (f x : ℕ) (e : ElementId) (ls : List Outgoing) → AllByRecursion (Aimed p f) ls → target_of p x f ≡ Some e → 0 < many x ls → IsSome (held ls e.0 (port x))
-aimed_held p f x e [] all is some = absurd (omega arith)
-aimed_held p f x e (Parcel entry to payload ∷ ls) all is some = by (x == entry.0) refl (aimed_held p f x e ls all.1 is)
+-- what is sent at an entry is sent to the receiver
+pub any_sent : (p : Plan) (e x : ℕ) (t : ElementId) (ls : List Outgoing) → AllByRecursion (Aimed p e) ls → target_of p x e ≡ Some t → 0 < many (entry_port x) ls → AnySent (SentTo p x t) ls
+any_sent p e x t [] all is some = absurd (omega arith)
+any_sent p e x t (Parcel entry to payload ∷ ls) all is some = by (entry.0 == x) refl (any_sent p e x t ls all.1 is) some
   where
-    here : x ≡ entry.0 → (to.0 == e.0) ≡ true
-    here same = ap (λ (t : ElementId). t.0 == e.0) (same_Some to e (sym all.0 ∙ ap (λ n. target_of p n f) (sym same) ∙ is)) ∙ self e.0
+    by : (b : Bool) → (entry.0 == x) ≡ b → (0 < many (entry_port x) ls → AnySent (SentTo p x t) ls) → 0 < cond b 1 0 + many (entry_port x) ls →
+        SentTo p x t (Parcel entry to payload) ⊎ AnySent (SentTo p x t) ls
+    by true same rest some = inl (eqb-true entry.0 x same, same_Some to t (sym all.0 ∙ ap (λ n. target_of p n e) (eqb-true entry.0 x same) ∙ is))
+    by false same rest some = inr (rest (omega (arith, some)))
+any_sent p e x t (Contribution reduction value ∷ ls) all is some = inr (any_sent p e x t ls all.1 is (omega (arith, some)))
 
-    by : (b : Bool) → (x == entry.0) ≡ b → (0 < many x ls → IsSome (held ls e.0 (port x))) → IsSome (cond (to.0 == e.0 && b) (Some payload) (held ls e.0 (port x)))
-    by true same rest = subst (λ a. IsSome (cond (a && true) (Some payload) (held ls e.0 (port x)))) (sym (here (eqb-true x entry.0 same))) refl
-    by false same rest =
-        subst (λ a. IsSome (cond a (Some payload) (held ls e.0 (port x)))) (sym (none (to.0 == e.0))) (rest (omega (arith, ap {B = ℕ} (λ b. cond b 1 0) (turned entry.0 x ∙ same))))
-      where
-        none : (a : Bool) → (a && false) ≡ false
-        none true = refl
-        none false = refl
+-- ---- what is added to what was sent
 
-parcels_aimed : (p : Plan) (e : ℕ) (entry : EntryId) (to : Option ElementId) (payload : Payload) → target_of p entry.0 e ≡ to → AllByRecursion (Aimed p e) (parcels entry to payload)
-parcels_aimed p e entry None payload is = tt
-parcels_aimed p e entry (Some to) payload is = (is, tt)
+-- a port at which what an element sends arrives
+abbrev pub Lands : Plan → ℕ → Port → Type 0
+Lands p e (ports.Entry x) = (to : ElementId) × (target_of p x.0 e ≡ Some to)
+Lands p e (ports.Total r) = Unit {0}
 
-parcels_many : (x : ℕ) (entry : EntryId) (to : Option ElementId) (payload : Payload) → many x (parcels entry to payload) ≤ cond (entry.0 == x) 1 0
-parcels_many x entry None payload = omega arith
-parcels_many x entry (Some to) payload = omega arith
+-- so often to each port, or less where nobody receives
+record Adds (p : Plan) (e : ℕ) (count : Port → ℕ) (before after : List Outgoing) : Type 0 where
+  more : List Outgoing
+  is : after ≡ before ++ more
+  aimed : AllByRecursion (Aimed p e) more
+  few : (port : Port) → many port more ≤ count port
+  all : (port : Port) → Lands p e port → many port more ≡ count port
 
 module _ (p : Plan) (e : ℕ) where
-  act_aimed : (scene : Scene) (s : Stmt) (f : Effect) → AllByRecursion (Aimed p e) f.sent → AllByRecursion (Aimed p e) (act p e scene s f).sent
-  act_aimed scene (Set at value) f all = all
-  act_aimed scene (Send entry values) f all =
-      let payload = payload_of values scene f.cells.numbers in
-      all_append (Aimed p e) f.sent (parcels entry (target_of p entry.0 e) payload) all (parcels_aimed p e entry (target_of p entry.0 e) payload refl)
+  nothing_added : (l : List Outgoing) → Adds p e (λ port. 0) l l
+  nothing_added l = record { more = []; is = sym (append-nil l); aimed = tt; few = λ port. omega arith; all = λ port h. refl }
 
-  acts_aimed : (scene : Scene) (block : List Stmt) (f : Effect) → AllByRecursion (Aimed p e) f.sent → AllByRecursion (Aimed p e) (acts p e scene block f).sent
-  acts_aimed scene [] f all = all
-  acts_aimed scene (s ∷ more) f all = acts_aimed scene more (act p e scene s f) (act_aimed scene s f all)
+  both_added : (c d : Port → ℕ) (x y z : List Outgoing) → Adds p e c x y → Adds p e d y z → Adds p e (λ port. c port + d port) x z
+  both_added c d x y z a b = record {
+    more = a.more ++ b.more;
+    is = b.is ∙ ap (λ l. l ++ b.more) a.is ∙ append_assoc x a.more b.more;
+    aimed = all_append (Aimed p e) a.more b.more a.aimed b.aimed;
+    few = λ port. omega (arith, many_append port a.more b.more, a.few port, b.few port);
+    all = λ port h. omega (arith, many_append port a.more b.more, a.all port h, b.all port h);
+  }
 
-  pub parts_aimed : (box : Inbox) (parts : List Part) (f : Effect) → AllByRecursion (Aimed p e) f.sent → AllByRecursion (Aimed p e) (parts_run p e box parts f).sent
-  parts_aimed box [] f all = all
-  parts_aimed box (part ∷ more) f all =
-      let scene = scene_of p e (given part.need box) in
-      parts_aimed box more (acts p e scene part.block f) (acts_aimed scene part.block f all)
+  parcels_aimed : (entry : EntryId) (to : Option ElementId) (payload : Payload) → target_of p entry.0 e ≡ to → AllByRecursion (Aimed p e) (parcels entry to payload)
+  parcels_aimed entry None payload is = tt
+  parcels_aimed entry (Some to) payload is = (is, tt)
 
-  -- no more messages of an entry than sends of it
-  act_many : (x : ℕ) (scene : Scene) (s : Stmt) (f : Effect) → many x (act p e scene s f).sent ≤ many x f.sent + stmt_sends x s
-  act_many x scene (Set at value) f = omega arith
-  act_many x scene (Send entry values) f =
-      let payload = payload_of values scene f.cells.numbers in
-      let to = target_of p entry.0 e in
-      omega (arith, many_append x f.sent (parcels entry to payload), parcels_many x entry to payload)
+  parcels_few : (port : Port) (entry : EntryId) (to : Option ElementId) (payload : Payload) → many port (parcels entry to payload) ≤ counted port (Some (ports.Entry entry))
+  parcels_few port entry None payload = omega arith
+  parcels_few port entry (Some to) payload = omega arith
 
-  acts_many : (x : ℕ) (scene : Scene) (block : List Stmt) (f : Effect) → many x (acts p e scene block f).sent ≤ many x f.sent + block_sends x block
-  acts_many x scene [] f = omega arith
-  acts_many x scene (s ∷ more) f = omega (arith, acts_many x scene more (act p e scene s f), act_many x scene s f)
+  parcel_there : (x : EntryId) (to : ElementId) (is : target_of p x.0 e ≡ Some to) (entry : EntryId) (payload : Payload) (b : Bool) → (entry.0 == x.0) ≡ b →
+      many (ports.Entry x) (parcels entry (target_of p entry.0 e) payload) ≡ cond b 1 0
+  parcel_there x to is entry payload true same =
+      ap (λ o. many (ports.Entry x) (parcels entry o payload)) (ap (λ n. target_of p n e) (eqb-true entry.0 x.0 same) ∙ is) ∙ ap {B = ℕ} (λ b. cond b 1 0 + 0) same
+  parcel_there x to is entry payload false same =
+      omega (arith, parcels_few (ports.Entry x) entry (target_of p entry.0 e) payload, ap {B = ℕ} (λ b. cond b 1 0) same)
 
-  pub parts_many : (x : ℕ) (box : Inbox) (parts : List Part) (f : Effect) → many x (parts_run p e box parts f).sent ≤ many x f.sent + parts_send x parts
-  parts_many x box [] f = omega arith
-  parts_many x box (part ∷ more) f =
-      let scene = scene_of p e (given part.need box) in
-      omega (arith, parts_many x box more (acts p e scene part.block f), acts_many x scene part.block f)
+  parcels_all : (port : Port) (entry : EntryId) (payload : Payload) → Lands p e port → many port (parcels entry (target_of p entry.0 e) payload) ≡ counted port (Some (ports.Entry entry))
+  parcels_all (ports.Entry x) entry payload h = parcel_there x h.0 h.1 entry payload (entry.0 == x.0) refl
+  parcels_all (ports.Total r) entry payload h = omega (arith, parcels_few (ports.Total r) entry (target_of p entry.0 e) payload)
 
-  -- and as many where there is a receiver
-  module _ (x : ℕ) (to : ElementId) (is : target_of p x e ≡ Some to) where
-    parcel_there : (entry : EntryId) (payload : Payload) (b : Bool) → (entry.0 == x) ≡ b → many x (parcels entry (target_of p entry.0 e) payload) ≡ cond b 1 0
-    parcel_there entry payload true same =
-        ap (λ o. many x (parcels entry o payload)) (ap (λ n. target_of p n e) (eqb-true entry.0 x same) ∙ is) ∙ ap {B = ℕ} (λ b. cond b 1 0 + 0) same
-    parcel_there entry payload false same = omega (arith, parcels_many x entry (target_of p entry.0 e) payload, ap {B = ℕ} (λ b. cond b 1 0) same)
+  stmt_adds : (s : Stmt) (y : Stmt-F Stmt) (t : Top) → Adds p e (λ port. counted port (fed_by y)) t.sent (top_step p e s y t).sent
+  stmt_adds s (Stmt-F.Set at value) t = nothing_added t.sent
+  stmt_adds s (Stmt-F.SetAt at count place value) t = nothing_added t.sent
+  stmt_adds s (Stmt-F.If test a b) t = nothing_added t.sent
+  stmt_adds s (Stmt-F.For slot low high block) t = nothing_added t.sent
+  stmt_adds s (Stmt-F.Send entry values) t =
+      let payload = payload_of values (filled_of values t.run) in
+      record {
+        more = parcels entry (target_of p entry.0 e) payload;
+        is = refl;
+        aimed = parcels_aimed entry (target_of p entry.0 e) payload refl;
+        few = λ port. parcels_few port entry (target_of p entry.0 e) payload;
+        all = λ port h. parcels_all port entry payload h;
+      }
+  stmt_adds s (Stmt-F.Contribute reduction value) t = record {
+    more = Contribution reduction (computed value t.run).value ∷ [];
+    is = refl;
+    aimed = (tt, tt);
+    few = λ port. omega arith;
+    all = λ port h. omega arith;
+  }
 
-    act_all : (scene : Scene) (s : Stmt) (f : Effect) → many x (act p e scene s f).sent ≡ many x f.sent + stmt_sends x s
-    act_all scene (Set at value) f = omega arith
-    act_all scene (Send entry values) f =
-        let payload = payload_of values scene f.cells.numbers in
-        omega (arith, many_append x f.sent (parcels entry (target_of p entry.0 e) payload), parcel_there entry payload (entry.0 == x) refl)
+  block_adds : (block : List Stmt) (t : Top) → Adds p e (λ port. block_sends port block) t.sent (top_acts p e block t).sent
+  block_adds [] t = nothing_added t.sent
+  block_adds (s ∷ more) t =
+      both_added (λ port. counted port (fed_by (out-Stmt s))) (λ port. block_sends port more) t.sent (top_step p e s (out-Stmt s) t).sent (top_acts p e more (top_step p e s (out-Stmt s) t)).sent
+      (stmt_adds s (out-Stmt s) t) (block_adds more (top_step p e s (out-Stmt s) t))
 
-    acts_all : (scene : Scene) (block : List Stmt) (f : Effect) → many x (acts p e scene block f).sent ≡ many x f.sent + block_sends x block
-    acts_all scene [] f = omega arith
-    acts_all scene (s ∷ more) f = omega (arith, acts_all scene more (act p e scene s f), act_all scene s f)
+  module _ (s k : ℕ) (box : Inbox) where
+    part_adds : (part : Part) (f : Effect) → Adds p e (λ port. block_sends port part.block) f.sent (part_runs p e s k box part f).sent
+    part_adds part f =
+        let a = block_adds part.block (record { run = record { scene = scene_of p e k (given part.need box); cells = f.cells.numbers; slip = 0 }; sent = [] }) in
+        record { more = a.more; is = ap (λ l. f.sent ++ l) a.is; aimed = a.aimed; few = a.few; all = a.all }
 
-    pub parts_all : (box : Inbox) (parts : List Part) (f : Effect) → many x (parts_run p e box parts f).sent ≡ many x f.sent + parts_send x parts
-    parts_all box [] f = omega arith
-    parts_all box (part ∷ more) f =
-        let scene = scene_of p e (given part.need box) in
-        omega (arith, parts_all box more (acts p e scene part.block f), acts_all scene part.block f)
+    parts_add : (parts : List Part) (f : Effect) → Adds p e (λ port. parts_send port parts) f.sent (parts_run p e s k box parts f).sent
+    parts_add [] f = nothing_added f.sent
+    parts_add (part ∷ more) f =
+        both_added (λ port. block_sends port part.block) (λ port. parts_send port more) f.sent (part_runs p e s k box part f).sent (parts_run p e s k box more (part_runs p e s k box part f)).sent
+        (part_adds part f) (parts_add more (part_runs p e s k box part f))
 
   -- ---- what a step reads of the messages: those that its parts need
 
-  given_same : (need : Need) (box box' : Inbox) → ((id : EntryId) → 0 < takes id.0 need → box (ports.Entry id) ≡ box' (ports.Entry id)) → given need box ≡ given need box'
+  given_same : (need : Need) (box box' : Inbox) → ((port : Port) → 0 < takes port need → box port ≡ box' port) → given need box ≡ given need box'
   given_same needs.Nothing box box' h = refl
-  given_same (needs.Port (ports.Entry id)) box box' h =
-      let some : 0 < takes id.0 (needs.Port (ports.Entry id)) = omega (arith, ap {B = ℕ} (λ b. cond b 1 0) (self id.0)) in
-      ap (λ o. unwrap_or o nothing) (h id some)
+  given_same (needs.Port port) box box' h = ap (λ o. unwrap_or o nothing) (h port (omega (arith, counted_own port)))
 
-  pub parts_same : (box box' : Inbox) (parts : List Part) (f : Effect) → ((id : EntryId) → 0 < parts_take id.0 parts → box (ports.Entry id) ≡ box' (ports.Entry id)) →
-      parts_run p e box parts f ≡ parts_run p e box' parts f
-  parts_same box box' [] f h = refl
-  parts_same box box' (part ∷ more) f h =
-      ap (λ g. parts_run p e box more (acts p e (scene_of p e g) part.block f)) (given_same part.need box box' (λ id some. h id (omega arith)))
-      ∙ parts_same box box' more (acts p e (scene_of p e (given part.need box')) part.block f) (λ id some. h id (omega arith))
+  parts_same : (s k : ℕ) (box box' : Inbox) (parts : List Part) (f : Effect) → ((port : Port) → 0 < parts_take port parts → box port ≡ box' port) →
+      parts_run p e s k box parts f ≡ parts_run p e s k box' parts f
+  parts_same s k box box' [] f h = refl
+  parts_same s k box box' (part ∷ more) f h =
+      ap (λ g. parts_run p e s k box more (block_runs p e s k part.block g f)) (given_same part.need box box' (λ port some. h port (omega (arith, some))))
+      ∙ parts_same s k box box' more (part_runs p e s k box' part f) (λ port some. h port (omega (arith, some)))
+
+-- ---- a step
+
+-- what one step of one element sends
+pub record Told (p : Plan) (e s : ℕ) (sent : List Outgoing) : Type 0 where
+  pub aimed : AllByRecursion (Aimed p e) sent
+  pub few : (port : Port) → many port sent ≤ parts_send port (parts_at p e s)
+  pub all : (port : Port) → Lands p e port → many port sent ≡ parts_send port (parts_at p e s)
+
+pub step_tells : (p : Plan) (s k e : ℕ) (box : Inbox) (cells : Cells) → Told p e s (step_of p s k e box cells).sent
+step_tells p s k e box cells =
+    let a = parts_add p e s k box (parts_at p e s) (quiet cells) in
+    let same : a.more ≡ (step_of p s k e box cells).sent = sym a.is in
+    record {
+      aimed = subst (AllByRecursion (Aimed p e)) same a.aimed;
+      few = λ port. subst (λ l. many port l ≤ parts_send port (parts_at p e s)) same (a.few port);
+      all = λ port h. subst (λ l. many port l ≡ parts_send port (parts_at p e s)) same (a.all port h);
+    }
+
+pub step_same : (p : Plan) (s k e : ℕ) (box box' : Inbox) (cells : Cells) → ((port : Port) → 0 < parts_take port (parts_at p e s) → box port ≡ box' port) →
+    step_of p s k e box cells ≡ step_of p s k e box' cells
+step_same p s k e box box' cells h = parts_same p e s k box box' (parts_at p e s) (quiet cells) h

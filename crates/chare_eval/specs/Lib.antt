@@ -5,3 +5,4 @@ pub mod Stage
 pub mod Fold
 pub mod Inside
 pub mod Laws
+pub mod Tables

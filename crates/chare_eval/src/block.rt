@@ -1,173 +1,252 @@
 //! What a block does to an element, and what it sends.
 
-ghost use Rattle.std.specs.Prelude.{◌≡◌, ◌<◌, ◌≤◌, ◌+◌, ◌∷◌, ◌++◌, [], length, vec_len, vec_capacity, pos, replicate, slice_set, OnOk, OnErr, IfOk};
+ghost use Rattle.std.specs.Prelude.{◌≡◌, ◌<◌, ◌≤◌, ◌+◌, ◌/◌, ◌%◌, ◌++◌, ◌&&◌, ◌==◌, length, map, nat_lt, if◌then◌else◌, slice_set, vec_len, vec_capacity, OnOk, OnErr};
+ghost use Rattle.chare_base.specs.Elements.{elements, place_of, cols_at, cells_of, steps_of, parts_at};
 ghost use Rattle.chare_base.specs.Entries.{target_of};
-ghost use Rattle.chare_base.specs.Elements.{elements, steps_of, parts_at, states_of};
-ghost use Rattle.chare_eval.specs.Block.{Effect, act, acts, block, quiet, payload_of, parcels, scene_of, valued};
+ghost use Rattle.chare_eval.specs.declared.value.Scene.{Scene as Scenes};
+ghost use Rattle.chare_eval.specs.Block.{act, block, block_runs, filled_of, in_order, payload_of, quiet, scene_of, slip_after, top_acts, with_loop, written, written_in};
+ghost use Rattle.chare_eval.specs.Value.{least_kind, write};
 
+use crate::arithmetic::{WRITE, least_kind};
 use crate::effects::{Effects, Outgoing};
-use crate::value::{Scene, value};
-use chare_base::cells::Cells;
+use crate::value::{Computed, Scene, value};
+use chare_base::cells::{Cells, Slip};
 use chare_base::expression::Expr;
 use chare_base::memory::Memory;
 use chare_base::message::{EntryId, Payload};
-use chare_base::plan::{ElementId, Plan, Spot, Stmt};
+use chare_base::plan::{ElementId, Place, Plan, Spot, Stmt};
 use sqlite_items::Items;
+use std::alloc::Global;
 
-/// Runs one part of one step of an element on its cells, where this payload came with the message that the part
-/// needs (none where it needs none). What it sends is put behind what was sent before.
+/// Runs one part of one step of an element in an iteration, on its cells, where this payload came with the message
+/// that the part needs (none where it needs none). What it sends is put behind what was sent before. A slip of the
+/// part is kept in the cells where none is kept yet; of the same step and iteration the lesser kind stays.
 ///
-/// `Memory`: an allocation was refused; all is as before. Memory is taken before anything changes.
+/// `Memory`: an allocation was refused; all is as before. Memory is taken before anything changes, for one send for
+/// each statement of the block at most: turns of a loop take none.
 pub fn run_block(
+    alloc: Global,
     plan: &Plan,
     e: ElementId,
     spot: Spot,
-    payload: &Payload,
+    iteration: u64,
     cells: &mut Cells,
+    mail: &Payload,
     effects: &mut Effects,
 ) -> Result<(), Memory>
     requires element { e.0 < elements plan.now }
     requires step { spot.step < length (steps_of plan.now e.0) }
     requires part { spot.part < length (parts_at plan.now e.0 spot.step) }
-    requires cells { length cells.old.numbers ≡ length (states_of plan.now e.0) }
-    ensures cells { OnOk result (cells.new ≡ (block plan.now e.0 spot.step spot.part payload.now cells.old).cells) }
-    ensures sent { OnOk result (effects.new ≡ effects.old ++ (block plan.now e.0 spot.step spot.part payload.now cells.old).sent) }
+    requires cells { length cells.old.numbers ≡ cells_of plan.now e.0 }
+    ensures cells { OnOk result (cells.new ≡ (block plan.now e.0 spot.step spot.part iteration mail.now cells.old).cells) }
+    ensures sent { OnOk result (effects.new ≡ effects.old ++ (block plan.now e.0 spot.step spot.part iteration mail.now cells.old).sent) }
     ensures err { OnErr result ((cells.new ≡ cells.old) × (effects.new ≡ effects.old)) }
 {
-    let turn = plan.turn(e, spot);
-    let scene = scene_at(turn.index, payload);
-    run_part(plan, e, &scene, turn.part.block.as_slice(), cells, effects)?;
+    let _ = alloc;
+    let place = plan.place(e);
+    let found = plan.part_at(e, place, spot);
+    let block = found.part.block.as_slice();
+    run_part(
+        plan, e, place, spot.step, iteration, found.cols, block, mail, cells, effects,
+    )?;
     Ok(())
 }
 
-/// Runs the statements of a part of an element. What they send is put behind what was sent before.
+/// The same for a part that was found before, so that an element that keeps its place looks nothing up: the
+/// element's place, how many columns its array has, and the part's block.
 ///
 /// `Memory`: an allocation was refused; all is as before. Memory is taken before anything changes.
 pub fn run_part(
     plan: &Plan,
     e: ElementId,
-    scene: &Scene,
+    place: Place,
+    step: u8,
+    iteration: u64,
+    cols: u32,
     block: &[Stmt],
+    payload: &Payload,
     cells: &mut Cells,
     effects: &mut Effects,
 ) -> Result<(), Memory>
-    requires { e.0 < elements plan.now }
-    ensures cells { OnOk result (cells.new ≡ (acts plan.now e.0 scene.now block.now (quiet cells.old)).cells) }
-    ensures sent { OnOk result (effects.new ≡ effects.old ++ (acts plan.now e.0 scene.now block.now (quiet cells.old)).sent) }
+    requires element { e.0 < elements plan.now }
+    requires place { place ≡ place_of plan.now e.0 }
+    requires cols { cols ≡ cols_at plan.now e.0 }
+    ensures cells { OnOk result (cells.new ≡ (block_runs plan.now e.0 step iteration block.now payload.now (quiet cells.old)).cells) }
+    ensures sent { OnOk result (effects.new ≡ effects.old ++ (block_runs plan.now e.0 step iteration block.now payload.now (quiet cells.old)).sent) }
     ensures err { OnErr result ((cells.new ≡ cells.old) × (effects.new ≡ effects.old)) }
 {
     effects.all.reserve(block.len())?;
-    run_statements(plan, e, scene, block, cells, &mut effects.all);
+    let mut scene = scene_at(plan, e, place.index, cols, iteration, payload);
+    let mut kind = 0;
+    run_top(
+        plan,
+        e,
+        place.index,
+        block,
+        &mut scene,
+        &mut cells.numbers,
+        &mut kind,
+        &mut effects.all,
+    );
+    note_slip(&mut cells.slip, kind, step, iteration);
     Ok(())
 }
 
-/// What the expressions of an element read beside its cells: its index in its array, and the values of the message
-/// that came.
-pub fn scene_at(index: u32, payload: &Payload) -> Scene
-    ensures { result ≡ record { index = index; values = payload.now.values } }
+// What the element's expressions read beside its cells.
+#[tactic(auto, unfolding(crate::specs::Block::scene_of), using(crate::proofs::Scenes::cols_some))]
+pub(crate) fn scene_at(
+    plan: &Plan,
+    e: ElementId,
+    index: u32,
+    cols: u32,
+    iteration: u64,
+    payload: &Payload,
+) -> Scene
+    requires index { index ≡ (place_of plan.now e.0).index }
+    requires cols { cols ≡ cols_at plan.now e.0 }
+    ensures { result ≡ scene_of plan.now e.0 iteration payload.now }
 {
+    let (row, col) = row_and_col(index, cols);
     Scene {
         index,
+        row,
+        col,
+        which: 0,
+        iteration,
         values: payload.values,
+        loops: [0; 32],
     }
 }
 
-/// The same for an element, whose index is looked for.
-#[tactic(auto, unfolding(crate::specs::Block::scene_of))]
-pub fn scene_of(plan: &Plan, e: ElementId, payload: &Payload) -> Scene
-    ensures { result ≡ scene_of plan.now e.0 payload.now }
+// The row and the column of an index. In the first row there is nothing to divide.
+#[tactic(auto, using(crate::proofs::Scenes::first_row, crate::proofs::Scenes::first_col))]
+fn row_and_col(index: u32, cols: u32) -> (u32, u32)
+    requires { 0 < cols }
+    ensures row { result.0 ≡ index / cols }
+    ensures col { result.1 ≡ index % cols }
 {
-    scene_at(plan.place(e).index, payload)
+    if index < cols {
+        (0, index)
+    } else {
+        (index / cols, index % cols)
+    }
 }
 
-// Runs statements in order. Each sends once at most, so there is room.
-fn run_statements(
+// Keeps the slip that is kept after one of this kind. Most blocks have none, and write nothing.
+fn note_slip(kept: &mut Slip, kind: u8, step: u8, iteration: u64)
+    ensures { kept.new ≡ slip_after step iteration kind kept.old }
+{
+    if kind != 0 {
+        *kept = slip_after(*kept, kind, step, iteration);
+    }
+}
+
+// The slip that is kept.
+fn slip_after(kept: Slip, kind: u8, step: u8, iteration: u64) -> Slip
+    ensures { result ≡ slip_after step iteration kind kept }
+{
+    if kind == 0 {
+        kept
+    } else if kept.kind == 0 {
+        Slip {
+            kind,
+            step,
+            iteration,
+        }
+    } else if kept.step == step && kept.iteration == iteration {
+        Slip {
+            kind: least_kind(kept.kind, kind),
+            step,
+            iteration,
+        }
+    } else {
+        kept
+    }
+}
+
+// Runs the statements of a block in order, where there is room for what each may send.
+fn run_top(
     plan: &Plan,
     e: ElementId,
-    scene: &Scene,
+    index: u32,
     block: &[Stmt],
-    cells: &mut Cells,
+    scene: &mut Scene,
+    cells: &mut Items<i64>,
+    slip: &mut u8,
     sent: &mut Vec<Outgoing>,
 )
     requires element { e.0 < elements plan.now }
+    requires index { index ≡ (place_of plan.now e.0).index }
     requires room { vec_len sent.old + length block.now ≤ vec_capacity sent.old }
-    ensures { record { cells = cells.new; sent = sent.new.items } ≡ acts plan.now e.0 scene.now block.now (record { cells = cells.old; sent = sent.old.items }) }
+    ensures { record { run = record { scene = scene.new; cells = cells.new; slip = slip.new }; sent = sent.new.items } ≡ top_acts plan.now e.0 block.now (record { run = record { scene = scene.old; cells = cells.old; slip = slip.old }; sent = sent.old.items }) }
 {
     for stmt in block {
-        run_statement(plan, e, scene, stmt, cells, sent);
-    }
-}
-
-fn run_statement(
-    plan: &Plan,
-    e: ElementId,
-    scene: &Scene,
-    stmt: &Stmt,
-    cells: &mut Cells,
-    sent: &mut Vec<Outgoing>,
-)
-    requires element { e.0 < elements plan.now }
-    requires room { vec_len sent.old < vec_capacity sent.old }
-    ensures exact { record { cells = cells.new; sent = sent.new.items } ≡ act plan.now e.0 scene.now stmt.now (record { cells = cells.old; sent = sent.old.items }) }
-    ensures len { vec_len sent.new ≤ vec_len sent.old + 1 }
-    ensures room { vec_capacity sent.old ≤ vec_capacity sent.new }
-{
-    match stmt {
-        Stmt::Set {
-            cell,
-            value: written,
-        } => {
-            let at = *cell as usize;
-            let value = value(written, scene, cells.numbers.as_slice());
-            if at < cells.len() {
-                cells.set(at, value);
+        match stmt {
+            Stmt::Send { entry, values } => {
+                let payload = payload_of(values.as_slice(), scene, cells.as_slice(), slip);
+                if let Some(to) = target(plan, *entry, e, index) {
+                    sent.push(Outgoing::Parcel {
+                        entry: *entry,
+                        to,
+                        payload,
+                    })
+                    .unwrap();
+                }
             }
-        }
-        Stmt::Send { entry, values } => {
-            let payload = payload_of(values.as_slice(), scene, cells.numbers.as_slice());
-            if let Some(to) = target(plan, *entry, e) {
-                sent.push(Outgoing::Parcel {
-                    entry: *entry,
-                    to,
-                    payload,
+            Stmt::Contribute {
+                reduction,
+                value: e,
+            } => {
+                let computed = value(e, scene, cells.as_slice());
+                *slip = least_kind(*slip, computed.slip);
+                sent.push(Outgoing::Contribution {
+                    reduction: *reduction,
+                    value: computed.value,
                 })
                 .unwrap();
             }
+            _ => run_one(stmt, scene, cells, slip),
         }
     }
 }
 
 // The element that gets what an element sends at an entry, if there is one.
 #[tactic(auto, unfolding(chare_base::specs::Entries::target_of))]
-fn target(plan: &Plan, entry: EntryId, e: ElementId) -> Option<ElementId>
-    requires { e.0 < elements plan.now }
+fn target(plan: &Plan, entry: EntryId, e: ElementId, index: u32) -> Option<ElementId>
+    requires element { e.0 < elements plan.now }
+    requires index { index ≡ (place_of plan.now e.0).index }
     ensures { result ≡ target_of plan.now entry.0 e.0 }
 {
     if (entry.0 as usize) < plan.entries.len() {
-        plan.target_of(entry, e)
+        plan.target_at(entry, e, index)
     } else {
         None
     }
 }
 
-// What expressions are worth, as a payload.
-fn payload_of(values: &[Expr], scene: &Scene, cells: &[i64]) -> Payload
-    ensures { result ≡ payload_of values.now scene.now cells.now }
+// What expressions compute, as a payload.
+fn payload_of(values: &[Expr], scene: &Scene, cells: &[i64], slip: &mut u8) -> Payload
+    ensures payload { result ≡ payload_of values.now (filled_of values.now (record { scene = scene.now; cells = cells.now; slip = slip.old })) }
+    ensures slip { slip.new ≡ (filled_of values.now (record { scene = scene.now; cells = cells.now; slip = slip.old })).slip }
 {
+    let filled = filled(values, scene, cells, slip);
     Payload {
         count: values.len().min(8) as u8,
-        values: valued(values, scene, cells),
+        values: filled,
     }
 }
 
-fn valued(values: &[Expr], scene: &Scene, cells: &[i64]) -> [i64; 8]
-    ensures { result ≡ valued 0 values.now scene.now cells.now (replicate 8 (pos 0)) }
+// What expressions compute, 0 behind the last.
+fn filled(values: &[Expr], scene: &Scene, cells: &[i64], slip: &mut u8) -> [i64; 8]
+    ensures { record { values = result; slip = slip.new } ≡ filled_of values.now (record { scene = scene.now; cells = cells.now; slip = slip.old }) }
 {
-    let mut worth = [0; 8];
+    let mut filled = [0; 8];
     for (i, e) in values.iter().enumerate() {
-        put(&mut worth, i, value(e, scene, cells));
+        let computed = value(e, scene, cells);
+        *slip = least_kind(*slip, computed.slip);
+        put(&mut filled, i, computed.value);
     }
-    worth
+    filled
 }
 
 // Writes a value at a place, where there is one.
@@ -176,5 +255,101 @@ fn put(values: &mut [i64], i: usize, value: i64)
 {
     if i < values.len() {
         values[i] = value;
+    }
+}
+
+// Runs statements in order.
+#[cycle(statements)]
+fn run_all(block: &[Stmt], scene: &mut Scene, cells: &mut Items<i64>, slip: &mut u8)
+    ensures { record { scene = scene.new; cells = cells.new; slip = slip.new } ≡ in_order (map act block.now) (record { scene = scene.old; cells = cells.old; slip = slip.old }) }
+{
+    for stmt in block {
+        run_one(stmt, scene, cells, slip);
+    }
+}
+
+// Runs one statement. A send or a contribution does nothing here, since it stands directly in a block.
+#[cycle(statements)]
+fn run_one(stmt: &Stmt, scene: &mut Scene, cells: &mut Items<i64>, slip: &mut u8)
+    ensures { record { scene = scene.new; cells = cells.new; slip = slip.new } ≡ act stmt.now (record { scene = scene.old; cells = cells.old; slip = slip.old }) }
+{
+    match stmt {
+        Stmt::Set { cell, value: e } => {
+            let computed = value(e, scene, cells.as_slice());
+            write(cells, slip, *cell as usize, computed);
+        }
+        Stmt::SetAt {
+            at,
+            cells: count,
+            place,
+            value: e,
+        } => {
+            let place = value(place, scene, cells.as_slice());
+            let computed = value(e, scene, cells.as_slice());
+            *slip = least_kind(*slip, place.slip);
+            write_in(cells, slip, *at, *count, place.value, computed);
+        }
+        Stmt::If { test, yes, no } => {
+            let test = value(test, scene, cells.as_slice());
+            *slip = least_kind(*slip, test.slip);
+            if test.value != 0 {
+                run_all(yes.as_slice(), scene, cells, slip);
+            } else {
+                run_all(no.as_slice(), scene, cells, slip);
+            }
+        }
+        Stmt::For {
+            slot,
+            low,
+            high,
+            block,
+        } => {
+            for i in *low..*high {
+                set_loop(scene, *slot, i);
+                run_all(block.as_slice(), scene, cells, slip);
+            }
+        }
+        Stmt::Send { .. } | Stmt::Contribute { .. } => {}
+    }
+}
+
+// The loop's variable has a value.
+fn set_loop(scene: &mut Scene, slot: u8, i: i64)
+    ensures { scene.new ≡ record scene.old { loops = slice_set scene.old.loops slot i } }
+{
+    let slot = slot as usize;
+    if slot < scene.loops.len() {
+        scene.loops[slot] = i;
+    }
+}
+
+// Writes a value into a cell, where there is one.
+fn write(cells: &mut Items<i64>, slip: &mut u8, at: usize, computed: Computed)
+    ensures cells { cells.new ≡ slice_set cells.old at computed.value }
+    ensures slip { slip.new ≡ (if nat_lt at (length cells.old) then least_kind slip.old computed.slip else least_kind (least_kind slip.old computed.slip) write) }
+{
+    *slip = least_kind(*slip, computed.slip);
+    if at < cells.len() {
+        cells.set(at, computed.value);
+    } else {
+        *slip = least_kind(*slip, WRITE);
+    }
+}
+
+// Writes a value into a cell of a state, where there is one.
+fn write_in(
+    cells: &mut Items<i64>,
+    slip: &mut u8,
+    at: u32,
+    count: u32,
+    place: i64,
+    computed: Computed,
+)
+    ensures { (scene : Scenes) → record { scene = scene; cells = cells.new; slip = slip.new } ≡ written_in at count place computed (record { scene = scene; cells = cells.old; slip = slip.old }) }
+{
+    if 0 <= place && place < i64::from(count) {
+        write(cells, slip, at as usize + place as usize, computed);
+    } else {
+        *slip = least_kind(least_kind(*slip, computed.slip), WRITE);
     }
 }

@@ -2,7 +2,7 @@
 
 ghost use Rattle.std.specs.Prelude.{◌≡◌, ◌==◌, length, []};
 
-use chare_base::message::{EntryId, Payload};
+use chare_base::message::{EntryId, Payload, ReductionId};
 use chare_base::plan::ElementId;
 use std::alloc::Global;
 use std::marker::Model;
@@ -15,6 +15,11 @@ pub enum Outgoing {
         entry: EntryId,
         to: ElementId,
         payload: Payload,
+    },
+    /// A value for a reduction of the sender's array.
+    Contribution {
+        reduction: ReductionId,
+        value: i64,
     },
 }
 

@@ -1,23 +1,54 @@
-//! Laws of the definitions. Each is called where it is wanted: its clause is a fact from there on.
+//! Laws of the fold, and of each element inside an iteration: each is called where it is wanted, and its clause is a
+//! fact from there on.
 
-ghost use Rattle.chare_eval.specs.Laws.{FoldIsShaped, StrikesAreLocal, StepsAreLocal, SendsAreTrue, MessagesAreInTime, SendsAreFirst};
+ghost use Rattle.chare_eval.specs.Laws.{FoldIsShaped, SlipsAreNoted, EarlierFlipsDecide, StrikesAreLocal, StepsFollow};
+ghost use Rattle.chare_eval.specs.Laws.{PartsRunInAnyOrder, TotalsAreTrue, StepsSend};
 
-/// Whatever flips strike, the states of a fold have the shape of the plan's elements.
+/// The states of every fold, with or without flips, are one for each element of the plan, each with as many cells as
+/// the element's states have. So a fold's states can be packed and compared, and given as the states of a run.
 pub fn fold_is_shaped()
     ensures { FoldIsShaped }
 {}
 
-/// Inside an iteration an element goes by its own cells, its own flips and the messages to it, and what it sends
-/// is what the receivers find: so elements may run ahead of each other.
-pub fn elements_are_local()
-    ensures strikes { StrikesAreLocal }
-    ensures steps { StepsAreLocal }
-    ensures sends { SendsAreTrue }
+/// Between two iterations of a fold the slip of an element is none, or it has one of the three kinds and names one of
+/// the element's steps in an iteration that is completed.
+pub fn slips_are_noted()
+    ensures { SlipsAreNoted }
 {}
 
-/// Step by step, in each step in element order, no element waits: what it needs was sent before, and what it sends
-/// is sent once and taken later.
-pub fn none_waits()
-    ensures in_time { MessagesAreInTime }
-    ensures first { SendsAreFirst }
+/// The states after some iterations are the same with all flips and with those of earlier iterations alone. So a flip
+/// can be dropped or added without a change of the states up to its own iteration.
+pub fn earlier_flips_decide()
+    ensures { EarlierFlipsDecide }
+{}
+
+/// An element begins an iteration with its cells as they are after the iterations before it, struck by its own flips
+/// of this iteration, whatever strikes others.
+pub fn strikes_are_local()
+    ensures { StrikesAreLocal }
+{}
+
+/// An element all whose parts of a step are done stands before its next step; after its last step it stands between
+/// two iterations, with one more completed. It doesn't matter how far other elements are.
+pub fn steps_follow()
+    ensures { StepsFollow }
+{}
+
+/// A part that isn't done yet, run on the cells that the done ones left and on the message that it needs, leads to the
+/// cells where it is done too, whichever parts are done and in whatever order they ran. Each message that it sends is
+/// the one that its receiver finds in this iteration, and each of its contributions is the element's.
+pub fn parts_run_in_any_order()
+    ensures { PartsRunInAnyOrder }
+{}
+
+/// Each element of a reduction's array contributes once in an iteration. What each finds as the total joins these
+/// contributions in element order.
+pub fn totals_are_true()
+    ensures { TotalsAreTrue }
+{}
+
+/// In the step that sends to an entry an element sends a message to the element whose source it is there, if there is
+/// one.
+pub fn steps_send()
+    ensures { StepsSend }
 {}

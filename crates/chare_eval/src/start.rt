@@ -1,12 +1,13 @@
-//! The opening: all elements before iteration 0.
+//! The opening: each element before iteration 0.
 
-ghost use Rattle.std.specs.Prelude.{◌≡◌, ◌<◌, IfOk};
+ghost use Rattle.std.specs.Prelude.{◌≡◌, ◌<◌, ◌++◌, OnOk, IfOk};
 ghost use Rattle.chare_base.specs.Elements.{elements};
-ghost use Rattle.chare_eval.specs.Opening.{start_of, starts};
+ghost use Rattle.chare_eval.specs.Opening.{cell_starts, start_of, start_value, starts};
 
-use crate::block::scene_of;
+use crate::block::scene_at;
 use crate::value::{Scene, value};
 use chare_base::cells::{Cells, Slip};
+use chare_base::expression::Expr;
 use chare_base::memory::Memory;
 use chare_base::message::Payload;
 use chare_base::plan::{ElementId, Plan, State};
@@ -19,21 +20,42 @@ pub fn start_cells(alloc: Global, plan: &Plan, e: ElementId) -> Result<Cells, Me
     requires { e.0 < elements plan.now }
     ensures { IfOk result (λ cells. cells ≡ start_of plan.now e.0) }
 {
-    let scene = scene_of(plan, e, &Payload::NONE);
-    let numbers = start_values(alloc, &scene, plan.array_of(e).states.as_slice())?;
+    let place = plan.place(e);
+    let array = plan.array_at(e, place);
+    let scene = scene_at(plan, e, place.index, array.cols, 0, &Payload::NONE);
+    let numbers = start_values(alloc, &scene, array.states.as_slice())?;
     Ok(Cells {
         numbers: Items::from_vec(numbers),
         slip: Slip::NONE,
     })
 }
 
-// Each state's initial value.
+// The initial values of all states.
 fn start_values(alloc: Global, scene: &Scene, states: &[State]) -> Result<Vec<i64>, Memory>
     ensures { IfOk result (λ values. values.items ≡ starts scene.now states.now) }
 {
     let mut values = Vec::with_capacity(alloc, states.len())?;
     for state in states {
-        values.push(value(&state.start, scene, &[]))?;
+        push_starts(scene, &state.start, state.cells, &mut values)?;
     }
     Ok(values)
+}
+
+// The initial values of one state's cells, put behind others.
+fn push_starts(scene: &Scene, start: &Expr, cells: u32, values: &mut Vec<i64>) -> Result<(), Memory>
+    ensures { OnOk result (values.new.items ≡ values.old.items ++ cell_starts scene.now start.now 0 cells) }
+{
+    for which in 0..cells {
+        values.push(start_value(scene, start, which))?;
+    }
+    Ok(())
+}
+
+// The initial value of the cell of this number within its state.
+fn start_value(scene: &Scene, start: &Expr, which: u32) -> i64
+    ensures { result ≡ start_value scene.now start.now which }
+{
+    let mut scene = *scene;
+    scene.which = which;
+    value(start, &scene, &[]).value
 }
