@@ -1,7 +1,5 @@
+pub mod Missing
+pub mod Nodes
 pub mod Turns
-pub mod Along
 pub mod Kept
-pub mod Held
-pub mod Standing
-pub mod Together
-pub mod Rounds
+pub mod Along

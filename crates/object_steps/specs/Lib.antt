@@ -1,3 +1,5 @@
 pub mod Objects
-pub mod Boards
+pub mod Turns
 pub mod Laws
+pub mod Partial
+pub mod Totals

@@ -1,21 +1,20 @@
 //! An element's object.
 
 ghost use Rattle.std.specs.Prelude.{◌≡◌, ◌<◌, ◌≤◌, ◌++◌, ◌^◌, length, None, is_none, OnOk, OnErr, IfErr};
-ghost use Rattle.chare_base.specs.Elements.{elements, states_of, steps_of};
+ghost use Rattle.chare_base.specs.Elements.{cells_of, elements, parts_at, place_of, steps_of};
 ghost use Rattle.chare_eval.specs.Stage.{given};
 ghost use Rattle.ref_messages.specs.Refusal.{Takes, Refuses};
 ghost use Rattle.chare_base.specs.declared.plan.Plan.{Plan};
 ghost use Rattle.object_steps.specs.declared.ready.Ready.TheVariants as ready_as;
-ghost use Rattle.object_steps.specs.Objects.{Fits, advanced, arrived_at, begun, gone_on, key_of, mailed, need_of, ran, ready, ready_for, started, struck, taken};
+ghost use Rattle.object_steps.specs.Objects.{Fits, advanced, all_done, arrived_at, begun, gone_on, mailed, ran, ready, started, struck, taken};
 
-use crate::ready::Ready;
+use crate::ready::{Ready, Standpoint, arrived, chosen, is_done};
 use chare_base::cells::Cells;
 use chare_base::memory::Memory;
-use chare_base::message::{Need, Payload, Port, Source};
-use chare_base::plan::{ElementId, Plan, Spot};
-use chare_eval::block::{run_part, scene_at};
+use chare_base::message::{Need, Payload};
+use chare_base::plan::{ElementId, Part, Place, Plan, Spot};
+use chare_eval::block::run_part;
 use chare_eval::effects::Effects;
-use chare_eval::value::Scene;
 use ref_messages::fault::PutFault;
 use ref_messages::key::RefKey;
 use ref_messages::queue::RefQueue;
@@ -29,9 +28,11 @@ use std::marker::Model;
 #[derive(Drop)]
 pub struct Object {
     element: ElementId,
+    place: Place,
     cells: Cells,
     done: u64,
     step: Option<u8>,
+    parts: [bool; 8],
     mail: RefQueue,
 }
 
@@ -40,23 +41,26 @@ impl Model for Object {
 
     ghost Value = { Progress };
 
-    ghost view = { λ o. record { element = o.element; cells = o.cells; done = o.done; step = o.step; mail = o.mail } };
+    ghost view = { λ o. record { element = o.element; place = o.place; cells = o.cells; done = o.done; step = o.step; parts = o.parts; mail = o.mail } };
 }
 
 impl Object {
-    /// The object of an element that has done so many iterations: at its top, with no message. It takes no memory.
+    /// The object of an element that has completed so many iterations: at its top, with no message. It takes no
+    /// memory.
     pub fn start(alloc: Global, plan: &Plan, e: ElementId, cells: Cells, done: u64) -> Object
         requires element { e.0 < elements plan.now }
-        requires cells { length cells.numbers ≡ length (states_of plan.now e.0) }
+        requires cells { length cells.numbers ≡ cells_of plan.now e.0 }
         requires done { done ≤ plan.now.iterations }
-        ensures exact { result ≡ started e.0 cells done }
+        ensures exact { result ≡ started plan.now e.0 cells done }
         ensures fits { Fits plan.now result }
     {
         Object {
             element: e,
+            place: plan.place(e),
             cells,
             done,
             step: None,
+            parts: [false; 8],
             mail: RefQueue::start(alloc, done),
         }
     }
@@ -96,8 +100,9 @@ impl Object {
         self.step.is_none()
     }
 
-    /// What the object can do next: the part of its step where what that needs is there, at an edge too, or the port
-    /// that it waits at, or begin an iteration.
+    /// What the object can do next. `Step`: the first part of its step, in text order, that isn't done and that needs
+    /// nothing, or a message that is held, or one from beyond an edge. `Await`: there is none, and this is the port
+    /// that the first part which isn't done waits at. `AtTop`: no iteration is begun.
     #[tactic(auto, unfolding(crate::specs::Objects::ready))]
     pub fn ready(&self, plan: &Plan) -> Ready
         requires { Fits plan.now self.now }
@@ -105,17 +110,14 @@ impl Object {
     {
         match self.step {
             Some(step) => {
-                let spot = Spot { step, part: 0 };
-                match plan.needs(self.element, spot) {
-                    Need::Nothing => Ready::Step { spot },
-                    Need::Port(port) => {
-                        if arrived(plan, self.element, self.done, &self.mail, port).is_some() {
-                            Ready::Step { spot }
-                        } else {
-                            Ready::Await { port }
-                        }
-                    }
-                }
+                let at = Standpoint {
+                    element: self.element,
+                    place: self.place,
+                    iteration: self.done,
+                    mail: &self.mail,
+                };
+                let parts = parts_at(plan, self.element, self.place, step);
+                chosen(plan, at, step, &self.parts, parts)
             }
             None => Ready::AtTop,
         }
@@ -142,7 +144,7 @@ impl Object {
         self.step = Some(0);
     }
 
-    /// Holds a message under its key until its step takes it.
+    /// Holds a message under its key until a part takes it.
     ///
     /// `Old`: its iteration is completed. `Held`: it isn't, and a message is held under its key. `Memory`: neither,
     /// and an allocation was refused. After each, all is as before.
@@ -157,36 +159,65 @@ impl Object {
     }
 
     /// Runs the part of the step that `ready` answers: on the object's cells, with the message that it needs, which
-    /// is taken out. What it sends is put behind what was sent before. After its last step an iteration more is
-    /// completed.
+    /// is taken out. What it sends is put behind what was sent before. After the last part of a step comes the next
+    /// step, and after the last step an iteration more is completed.
     ///
     /// `Memory`: an allocation was refused; all is as before.
     #[tactic(auto, unfolding(crate::specs::Objects::advanced))]
-    pub fn advance(&mut self, plan: &Plan, spot: Spot, effects: &mut Effects) -> Result<(), Memory>
+    pub fn advance(
+        &mut self,
+        alloc: Global,
+        plan: &Plan,
+        spot: Spot,
+        effects: &mut Effects,
+    ) -> Result<(), Memory>
         requires fits { Fits plan.now self.old }
         requires ready { ready plan.now self.old ≡ ready_as.Step spot }
-        ensures ok { OnOk result (self.new ≡ advanced plan.now self.old spot.step) }
-        ensures sent { OnOk result (effects.new ≡ effects.old ++ (ran plan.now self.old spot.step).sent) }
+        ensures ok { OnOk result (self.new ≡ advanced plan.now self.old spot) }
+        ensures sent { OnOk result (effects.new ≡ effects.old ++ (ran plan.now self.old spot).sent) }
         ensures fits { Fits plan.now self.new }
         ensures err { OnErr result ((self.new ≡ self.old) × (effects.new ≡ effects.old)) }
     {
-        let turn = plan.turn(self.element, spot);
-        let need = turn.part.need;
-        let scene = scene_for(plan, self.element, turn.index, self.done, &self.mail, need);
-        let block = turn.part.block.as_slice();
-        run_part(plan, self.element, &scene, block, &mut self.cells, effects)?;
+        let _ = alloc;
+        let found = plan.part_at(self.element, self.place, spot);
+        let need = found.part.need;
+        let at = Standpoint {
+            element: self.element,
+            place: self.place,
+            iteration: self.done,
+            mail: &self.mail,
+        };
+        let payload = given(plan, at, need);
+        let block = found.part.block.as_slice();
+        run_part(
+            plan,
+            self.element,
+            self.place,
+            spot.step,
+            self.done,
+            found.cols,
+            block,
+            &payload,
+            &mut self.cells,
+            effects,
+        )?;
         take(&mut self.mail, self.done, need);
-        self.go_on(turn.steps, spot.step);
+        self.parts[spot.part as usize] = true;
+        self.go_on(found.steps, found.parts, spot.step);
         Ok(())
     }
 
-    // To the next step, or behind the last one.
-    fn go_on(&mut self, steps: u8, step: u8)
+    // Once all parts of the step are done: to the next step, or behind the last one.
+    fn go_on(&mut self, steps: u8, parts: u8, step: u8)
         requires done { self.old.done < 2 ^ 32 }
         requires step { step < steps }
         requires since { self.old.mail.since ≤ self.old.done }
-        ensures { self.new ≡ gone_on steps self.old step }
+        ensures { self.new ≡ gone_on steps parts step self.old }
     {
+        if !all_done(&self.parts, parts) {
+            return;
+        }
+        self.parts = [false; 8];
         if step + 1 == steps {
             self.done += 1;
             self.step = None;
@@ -197,49 +228,41 @@ impl Object {
     }
 }
 
-// What the element finds at a port in an iteration.
-#[tactic(auto, unfolding(chare_base::specs::Entries::source_of))]
-fn arrived(
-    plan: &Plan,
-    e: ElementId,
-    iteration: u64,
-    mail: &RefQueue,
-    port: Port,
-) -> Option<Payload>
-    requires { e.0 < elements plan.now }
-    ensures { result ≡ arrived_at plan.now e.0 iteration mail.now port }
+// The parts of a step of the element that stands at a place.
+#[tactic(auto, using(crate::proofs::Kept::few_parts))]
+fn parts_at(plan: &Plan, e: ElementId, place: Place, step: u8) -> &[Part]
+    requires element { e.0 < elements plan.now }
+    requires place { place ≡ place_of plan.now e.0 }
+    requires step { step < length (steps_of plan.now e.0) }
+    ensures exact { result.now ≡ parts_at plan.now e.0 step }
+    ensures few { length result.now ≤ 8 }
 {
-    match port {
-        Port::Entry(entry) => {
-            if entry.0 as usize >= plan.entries.len() {
-                return Some(Payload::NONE);
-            }
-            match plan.source_of(entry, e) {
-                Source::Element(_) => mail.get(RefKey { iteration, port }),
-                Source::Edge(payload) => Some(payload),
-            }
-        }
-    }
+    let array = plan.array_at(e, place);
+    let step = &array.steps.as_slice()[step as usize];
+    step.parts.as_slice()
 }
 
-// What a part's expressions read beside the cells, with what came of what it needs.
-fn scene_for(
-    plan: &Plan,
-    e: ElementId,
-    index: u32,
-    iteration: u64,
-    mail: &RefQueue,
-    need: Need,
-) -> Scene
-    requires { e.0 < elements plan.now }
-    ensures { result ≡ record { index = index; values = (given need (arrived_at plan.now e.0 iteration mail.now)).values } }
+// Whether the first so many parts are done.
+fn all_done(parts: &[bool], count: u8) -> bool
+    ensures { result ≡ all_done parts.now count }
+{
+    let mut all = true;
+    for i in 0..count {
+        let here = is_done(parts, i as usize);
+        all = all && here;
+    }
+    all
+}
+
+// The payload that comes with what a part needs, none where it needs nothing.
+fn given(plan: &Plan, at: Standpoint<'_>, need: Need) -> Payload
+    requires element { at.element.0 < elements plan.now }
+    requires place { at.place ≡ place_of plan.now at.element.0 }
+    ensures { result ≡ given need (arrived_at plan.now at.entry.element.0 at.entry.iteration at.entry.mail.now) }
 {
     match need {
-        Need::Nothing => scene_at(index, &Payload::NONE),
-        Need::Port(port) => match arrived(plan, e, iteration, mail, port) {
-            Some(payload) => scene_at(index, &payload),
-            None => scene_at(index, &Payload::NONE),
-        },
+        Need::Nothing => Payload::NONE,
+        Need::Port(port) => arrived(plan, at, port).unwrap_or(Payload::NONE),
     }
 }
 

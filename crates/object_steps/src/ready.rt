@@ -1,15 +1,118 @@
 //! What an object can do next.
 
-use chare_base::message::Port;
-use chare_base::plan::Spot;
+ghost use Rattle.std.specs.Prelude.{◌≡◌, ◌<◌, ◌≤◌, length, None};
+ghost use Rattle.chare_base.specs.Elements.{elements, place_of};
+ghost use Rattle.chare_base.specs.Ports.{port_needed};
+ghost use Rattle.chare_eval.specs.Inside.{is_done};
+ghost use Rattle.object_steps.specs.Objects.{arrived_at, can_run, ready_from};
+
+use chare_base::message::{Need, Payload, Port, Source};
+use chare_base::plan::{ElementId, Part, Place, Plan, Spot};
+use ref_messages::key::RefKey;
+use ref_messages::queue::RefQueue;
 
 /// What an object can do next.
 #[derive(Clone, Copy, Debug, PartialEq, Eq)]
 pub enum Ready {
-    /// This part of its step: what it needs is there.
+    /// Run this part of its step: what it needs is there.
     Step { spot: Spot },
     /// Nothing, until a message comes at this port.
     Await { port: Port },
     /// Begin an iteration: it is between two.
     AtTop,
+}
+
+/// An element where it stands, in an iteration, with the messages that came for it.
+#[derive(Clone, Copy)]
+pub(crate) struct Standpoint<'a> {
+    pub(crate) element: ElementId,
+    pub(crate) place: Place,
+    pub(crate) iteration: u64,
+    pub(crate) mail: &'a RefQueue,
+}
+
+// Of a step's parts: the first that isn't done and can run, else the first port that one waits at.
+pub(crate) fn chosen(
+    plan: &Plan,
+    at: Standpoint<'_>,
+    step: u8,
+    done: &[bool],
+    parts: &[Part],
+) -> Ready
+    requires element { at.element.0 < elements plan.now }
+    requires place { at.place ≡ place_of plan.now at.element.0 }
+    requires few { length parts.now ≤ 8 }
+    ensures { result ≡ ready_from (arrived_at plan.now at.entry.element.0 at.entry.iteration at.entry.mail.now) step done.now 0 None parts.now }
+{
+    let mut missing = None;
+    for (i, part) in parts.iter().enumerate() {
+        let need = part.need;
+        if !is_done(done, i) {
+            if can_run(plan, at, need) {
+                let part = i as u8;
+                return Ready::Step {
+                    spot: Spot { step, part },
+                };
+            }
+            missing = missing.or(port_needed(need));
+        }
+    }
+    match missing {
+        Some(port) => Ready::Await { port },
+        None => Ready::AtTop,
+    }
+}
+
+// Whether what a part needs is there.
+fn can_run(plan: &Plan, at: Standpoint<'_>, need: Need) -> bool
+    requires element { at.element.0 < elements plan.now }
+    requires place { at.place ≡ place_of plan.now at.element.0 }
+    ensures { result ≡ can_run (arrived_at plan.now at.entry.element.0 at.entry.iteration at.entry.mail.now) need }
+{
+    match need {
+        Need::Nothing => true,
+        Need::Port(port) => arrived(plan, at, port).is_some(),
+    }
+}
+
+// What the element finds at a port in the iteration. At an edge it finds the edge's payload.
+#[tactic(auto, unfolding(chare_base::specs::Entries::source_of))]
+pub(crate) fn arrived(plan: &Plan, at: Standpoint<'_>, port: Port) -> Option<Payload>
+    requires element { at.element.0 < elements plan.now }
+    requires place { at.place ≡ place_of plan.now at.element.0 }
+    ensures { result ≡ arrived_at plan.now at.entry.element.0 at.entry.iteration at.entry.mail.now port }
+{
+    let key = RefKey {
+        iteration: at.iteration,
+        port,
+    };
+    match port {
+        Port::Entry(entry) => {
+            if entry.0 as usize >= plan.entries.len() {
+                return Some(Payload::NONE);
+            }
+            match plan.source_at(entry, at.element, at.place.index) {
+                Source::Element(_) => at.mail.get(key),
+                Source::Edge(payload) => Some(payload),
+            }
+        }
+        Port::Total(_) => at.mail.get(key),
+    }
+}
+
+// The port that a part needs, if it needs one.
+fn port_needed(need: Need) -> Option<Port>
+    ensures { result ≡ port_needed need }
+{
+    match need {
+        Need::Nothing => None,
+        Need::Port(port) => Some(port),
+    }
+}
+
+// Whether a part is done.
+pub(crate) fn is_done(done: &[bool], part: usize) -> bool
+    ensures { result ≡ is_done done.now part }
+{
+    done.get(part).copied().unwrap_or(false)
 }

@@ -39,10 +39,6 @@ pub bound_not_before : (k : ℕ) (es : Entries) → Bound k (not_before k es)
 bound_not_before k [] = tt
 bound_not_before k (e ∷ es) = bound_kept k (nat_le k e.0.iteration) e (not_before k es) refl (bound_not_before k es)
 
--- a first message of an earlier iteration goes
-pub first_goes : (k n : ℕ) (xs ys : Entries) → nat_lt n k ≡ true → cond (nat_le k n) xs ys ≡ ys
-first_goes k n xs ys h = grind (arith, nat_tests)
-
 pub first_stays : (k n : ℕ) (xs ys : Entries) → k ≤ n → cond (nat_le k n) xs ys ≡ xs
 first_stays k n xs ys h = grind (arith, nat_tests)
 

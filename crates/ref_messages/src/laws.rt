@@ -2,7 +2,7 @@
 
 ghost use Rattle.ref_messages.specs.Laws.{KeysAreTold};
 
-/// Two keys are one exactly where they are equal.
+/// Two keys compare as equal exactly where they are equal.
 pub fn keys_are_told()
     ensures { KeysAreTold }
 {}
