@@ -1,5 +1,5 @@
 -- A checkpoint spells one state.
-use Rattle.std.proofs.Common.{◌≡◌, ℕ, suc, ◌<◌, ◌^◌, List, [], ◌∷◌, ◌++◌, length, get_or, refl, ap, sym, ◌∙◌, append_assoc, arith, to_z, FitsSigned}
+use Rattle.std.proofs.Common.{◌≡◌, ℕ, suc, ◌<◌, ◌^◌, List, [], ◌∷◌, ◌++◌, length, slice_index_or, refl, ap, sym, ◌∙◌, append_assoc, arith, to_z, FitsSigned}
 use Rattle.std.specs.Prelude.{ℤ, pos, negsuc}
 use Rattle.std.specs.List.{AllByRecursion}
 use Rattle.std.specs.Int.{w64, cast_unsigned}
@@ -9,7 +9,7 @@ use Rattle.byteorder.specs.Endian.{little_number}
 use Rattle.byteorder.specs.Numbers.{little_number-reads_back}
 use Rattle.chare_base.specs.declared.cells.Cells.{Cells}
 use Rattle.chare_base.specs.declared.plan.Plan.{Plan}
-use Rattle.chare_base.specs.Elements.{place_of, states_of}
+use Rattle.chare_base.specs.Elements.{cells_of, place_of}
 use Rattle.chare_base.proofs.Facts.{elements_some}
 use Rattle.pup_state.specs.Spelling.{field, cells_spelling, record_spelling, records_from, head, pack}
 use Rattle.pup_state.specs.Laws.{CellsFit, OneSpelling}
@@ -81,7 +81,7 @@ one_record p e j k a b r s hj hk fa fb l same =
 
 -- each element's number of cells
 abbrev Counted : List Cells → (ℕ → ℕ) → Type 0
-Counted all count = (i : ℕ) (none : Cells) → i < length all → length (get_or all i none).numbers ≡ count i
+Counted all count = (i : ℕ) (none : Cells) → i < length all → length (slice_index_or all i none).numbers ≡ count i
 
 counted_rest : (cells : Cells) (more : List Cells) (count : ℕ → ℕ) → Counted (cells ∷ more) count → Counted more (λ i. count (suc i))
 counted_rest cells more count h i none k = h (suc i) none (omega arith)
@@ -107,7 +107,7 @@ one_time p j k (x ∷ xs) (y ∷ ys) count hj hk some l ca cb fa fb same =
 pub one_spelling : OneSpelling
 unfolding pack
 one_spelling p j k a b hj hk fa fb same =
-    let count = λ (e : ℕ). length (states_of p e) in
+    let count = λ (e : ℕ). cells_of p e in
     let l : length a ≡ length b = fa.shape.count ∙ sym fb.shape.count in
     let records : records_from p j 0 a ≡ records_from p k 0 b =
     append_cancel_left (head (length b)) _ _ (ap (λ n. head n ++ records_from p j 0 a) (sym l) ∙ same) in

@@ -6,7 +6,7 @@ use Rattle.chare_base.specs.declared.cells.Cells.{Cells}
 use Rattle.chare_base.specs.declared.plan.Plan.{Plan}
 use Rattle.chare_base.specs.Elements.{place_of}
 
--- a number in so many bytes
+-- a number in `width` bytes
 unfoldable pub field : ℕ → ℕ → List ℕ
 field width x = little_bytes width x
 
@@ -37,6 +37,6 @@ records_from p done e (cells ∷ more) = record_spelling p e done cells ++ recor
 abbrev pub head : ℕ → List ℕ
 head count = codes "ACR1" ++ field 4 count
 
--- the checkpoint of all elements, so many iterations done
+-- the checkpoint of all elements after `done` completed iterations
 unfoldable pub pack : Plan → ℕ → List Cells → List ℕ
 pack p done all = head (length all) ++ records_from p done 0 all

@@ -1,11 +1,11 @@
 //! The bytes of elements and of all of them.
 
 ghost use Rattle.std.specs.Prelude.{◌≡◌, ◌+◌, ◌*◌, ◌<◌, ◌≤◌, ◌++◌, length, IfOk, OnOk, OnErr};
-ghost use Rattle.chare_base.specs.Elements.{elements, states_of};
+ghost use Rattle.chare_base.specs.Elements.{cells_of, elements};
 ghost use Rattle.chare_base.specs.Shape.{Shaped};
 ghost use Rattle.pup_state.specs.Spelling.{head, pack, record_spelling, records_from};
 
-use crate::put::{put_cells, put_u8, put_u16, put_u32, put_u64};
+use crate::put::{put, put_cells, put_u8, put_u16, put_u32, put_u64};
 use chare_base::bytes::Bytes;
 use chare_base::cells::{Cells, CellsList};
 use chare_base::memory::Memory;
@@ -20,47 +20,52 @@ pub fn size(cells: &Cells) -> u32
     28 + 8 * cells.len() as u32
 }
 
-/// Puts an element's record, so many iterations done, behind what was packed before. It wants room first, so
-/// that after want of memory nothing was written.
-#[tactic(auto, unfolding(crate::specs::Spelling::record_spelling))]
+/// Appends the record of an element after `done` completed iterations. Where it runs out of memory nothing was
+/// appended.
 pub fn pack_element(
+    alloc: Global,
     plan: &Plan,
     e: ElementId,
     done: u64,
     cells: &Cells,
-    out: &mut Vec<u8>,
+    out: &mut Bytes,
 ) -> Result<(), Memory>
     requires element { e.0 < elements plan.now }
-    requires cells { length cells.now.numbers ≡ length (states_of plan.now e.0) }
-    ensures ok { OnOk result (out.new.items ≡ out.old.items ++ record_spelling plan.now e.0 done cells.now) }
-    ensures err { OnErr result (out.new.items ≡ out.old.items) }
+    requires cells { length cells.now.numbers ≡ cells_of plan.now e.0 }
+    ensures ok { OnOk result (out.new ≡ out.old ++ record_spelling plan.now e.0 done cells.now) }
+    ensures err { OnErr result (out.new ≡ out.old) }
 {
-    let count = plan.cells_of(e);
-    out.reserve(size(cells) as usize)?;
-    let place = plan.place(e);
-    put_u16(out, place.array);
-    put_u32(out, place.index);
-    put_u64(out, done);
-    put_u8(out, cells.slip.kind);
-    put_u8(out, cells.slip.step);
-    put_u64(out, cells.slip.iteration);
-    put_u32(out, count);
-    put_cells(out, cells.numbers.as_slice());
+    let mut record = Vec::new(alloc);
+    write_record(plan, e, done, cells, &mut record)?;
+    out.extend(record.as_slice())?;
     Ok(())
 }
 
-/// The checkpoint of all elements, so many iterations done. Its time is linear in the cells, and its memory is
-/// asked for once.
+/// Appends what stands before the records of a checkpoint: the format's mark and the number of elements. Where it
+/// runs out of memory nothing was appended.
+pub fn put_head(alloc: Global, elements: u32, out: &mut Bytes) -> Result<(), Memory>
+    ensures ok { OnOk result (out.new ≡ out.old ++ head elements) }
+    ensures err { OnErr result (out.new ≡ out.old) }
+{
+    let mut head = Vec::with_capacity(alloc, 8)?;
+    put(&mut head, b"ACR1");
+    put_u32(&mut head, elements);
+    out.extend(head.as_slice())?;
+    Ok(())
+}
+
+/// The checkpoint of all elements, after `done` completed iterations. Its time is linear in the cells, and its memory
+/// is asked for once.
 #[tactic(auto, unfolding(crate::specs::Spelling::pack))]
 pub fn pack_all(alloc: Global, plan: &Plan, done: u64, all: &CellsList) -> Result<Bytes, Memory>
     requires { Shaped plan.now all.now }
     ensures { IfOk result (λ bytes. bytes ≡ pack plan.now done all.now) }
 {
     let all = all.as_slice();
-    let mut out = Vec::with_capacity(alloc, size_of_all(all))?;
-    put_head(plan.elements(), &mut out)?;
-    put_records(plan, done, all, &mut out)?;
-    Ok(Bytes::from_vec(out))
+    let mut out = Bytes::from_vec(Vec::with_capacity(alloc, size_of_all(all))?);
+    put_head(alloc, plan.elements(), &mut out)?;
+    put_records(alloc, plan, done, all, &mut out)?;
+    Ok(out)
 }
 
 // A checkpoint's size, to ask for its memory at once. Nothing else rests on it: each record asks for its room.
@@ -74,23 +79,49 @@ fn size_of_all(all: &[Cells]) -> usize {
     size
 }
 
-// What stands before the records: the format's mark and the number of elements.
-fn put_head(elements: u32, out: &mut Vec<u8>) -> Result<(), Memory>
-    ensures { OnOk result (out.new.items ≡ out.old.items ++ head elements) }
+// The records of all elements.
+fn put_records(
+    alloc: Global,
+    plan: &Plan,
+    done: u64,
+    all: &[Cells],
+    out: &mut Bytes,
+) -> Result<(), Memory>
+    requires { Shaped plan.now all.now }
+    ensures { OnOk result (out.new ≡ out.old ++ records_from plan.now done 0 all.now) }
 {
-    out.extend_from_slice(b"ACR1")?;
-    out.reserve(4)?;
-    put_u32(out, elements);
+    let mut record = Vec::new(alloc);
+    for e in 0..plan.elements() {
+        write_record(plan, ElementId(e), done, &all[e as usize], &mut record)?;
+        out.extend(record.as_slice())?;
+    }
     Ok(())
 }
 
-// The records of all elements.
-fn put_records(plan: &Plan, done: u64, all: &[Cells], out: &mut Vec<u8>) -> Result<(), Memory>
-    requires { Shaped plan.now all.now }
-    ensures { OnOk result (out.new.items ≡ out.old.items ++ records_from plan.now done 0 all.now) }
+// An element's record alone, in the memory of an earlier one.
+#[tactic(auto, unfolding(crate::specs::Spelling::record_spelling))]
+fn write_record(
+    plan: &Plan,
+    e: ElementId,
+    done: u64,
+    cells: &Cells,
+    out: &mut Vec<u8>,
+) -> Result<(), Memory>
+    requires element { e.0 < elements plan.now }
+    requires cells { length cells.now.numbers ≡ cells_of plan.now e.0 }
+    ensures { OnOk result (out.new.items ≡ record_spelling plan.now e.0 done cells.now) }
 {
-    for e in 0..plan.elements() {
-        pack_element(plan, ElementId(e), done, &all[e as usize], out)?;
-    }
+    let count = plan.cells_of(e);
+    out.clear();
+    out.reserve(size(cells) as usize)?;
+    let place = plan.place(e);
+    put_u16(out, place.array);
+    put_u32(out, place.index);
+    put_u64(out, done);
+    put_u8(out, cells.slip.kind);
+    put_u8(out, cells.slip.step);
+    put_u64(out, cells.slip.iteration);
+    put_u32(out, count);
+    put_cells(out, cells.numbers.as_slice());
     Ok(())
 }

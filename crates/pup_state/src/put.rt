@@ -7,7 +7,7 @@ ghost use Rattle.pup_state.specs.Spelling.{cells_spelling, field};
 use byteorder::{ByteOrder, LittleEndian};
 
 // Bytes at the end.
-fn put(out: &mut Vec<u8>, bytes: &[u8])
+pub(crate) fn put(out: &mut Vec<u8>, bytes: &[u8])
     requires { vec_len out.old + length bytes.now ≤ vec_capacity out.old }
     ensures items { out.new.items ≡ out.old.items ++ bytes.now }
     ensures len { vec_len out.new ≡ vec_len out.old + length bytes.now }

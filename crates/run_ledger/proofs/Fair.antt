@@ -1,9 +1,10 @@
 -- Records where no fault is to come.
 use Rattle.std.proofs.Common.{◌≡◌, ℕ, ◌++◌, List, [], ◌∷◌, refl, ap, ◌∙◌, arith}
 use Rattle.chare_base.proofs.Facts.{iterations_some}
+use Rattle.chare_eval.specs.Laws.{flips_before}
 use Rattle.run_ledger.specs.declared.record.Record.{Record}
 use Rattle.run_ledger.specs.declared.record.Record.TheVariants.{Accept, Done}
-use Rattle.run_ledger.specs.Ledger.{Ledger, start, flips_of, lineage, flips_before, lines_from, after, after_all}
+use Rattle.run_ledger.specs.Ledger.{Ledger, start, flips_of, lineage, lines_from, after, after_all}
 use Rattle.run_ledger.specs.Laws.{AcceptThenDoneIsLawful, LineagesStayEmpty}
 
 -- a ledger over an empty script

@@ -8,7 +8,7 @@ use Rattle.run_ledger.specs.declared.record.Record.{Record}
 use Rattle.run_ledger.specs.declared.record.Record.TheVariants.{Accept, Done}
 use Rattle.run_ledger.specs.Ledger.{FaultLine, Ledger, start, lineage, after}
 
--- the checkpoint of a replica, so many iterations done
+-- the checkpoint of a replica after k iterations
 abbrev pub checkpoint : Plan → Ledger → ℕ → ℕ → List ℕ
 checkpoint p l replica k = pack p k (fold p (lineage l replica) k)
 
@@ -20,7 +20,7 @@ pub record Accepts (p : Plan) (o : Options) (l : Ledger) (k : ℕ) : Type 0 wher
   -- after the base, and within the job
   pub later : l.base < k
   pub within : k ≤ p.iterations
-  -- the checkpoints of both replicas are one, byte for byte
+  -- the checkpoints of both replicas are equal, byte for byte
   pub agreed : checkpoint p l 0 k ≡ checkpoint p l 1 k
 
 -- the run may end: its base has done all iterations

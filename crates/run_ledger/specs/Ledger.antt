@@ -1,22 +1,13 @@
 -- The ledger of a run: what its records have made of the fault script.
-use Rattle.std.specs.Prelude.{ℕ, Bool, true, false, ◌==◌, nat_lt, nat_le, if◌then◌else◌, List, [], ◌∷◌, ◌++◌, Option, Some, None}
+use Rattle.std.specs.Prelude.{ℕ, Bool, true, false, ◌==◌, nat_le, if◌then◌else◌, List, [], ◌∷◌, ◌++◌}
 use Rattle.chare_base.specs.Flip.{Flip}
+use Rattle.chare_eval.specs.Laws.{flips_before}
 use Rattle.run_ledger.specs.declared.record.Record.{Record}
 use Rattle.run_ledger.specs.declared.record.Record.TheVariants.{Accept, Done}
 
 -- A line of a fault script: a flip strikes one of the replicas 0 and 1.
 pub data FaultLine : Type 0 where
   Flips : (replica : ℕ) (flip : Flip) → FaultLine
-
--- the iteration of the checkpoint that a record makes the base
-abbrev pub iteration_of : Record → Option ℕ
-iteration_of (Accept k) = Some k
-iteration_of Done = None
-
--- no record follows it
-abbrev pub is_end : Record → Bool
-is_end (Accept k) = false
-is_end Done = true
 
 -- The base is the last checkpoint that was accepted, at first the opening.
 pub record Ledger : Type 0 where
@@ -40,11 +31,6 @@ flips_of replica (Flips r flip ∷ more) = if r == replica then flip ∷ flips_o
 -- the flips that shape a replica: those of the base, and those that are still to strike it
 abbrev pub lineage : Ledger → ℕ → List Flip
 lineage l replica = l.lines ++ flips_of replica l.live
-
--- the flips that strike before an iteration
-abbrev pub flips_before : ℕ → List Flip → List Flip
-flips_before k [] = []
-flips_before k (flip ∷ more) = if nat_lt flip.at k then flip ∷ flips_before k more else flips_before k more
 
 -- the lines that strike at an iteration or later
 abbrev pub lines_from : ℕ → List FaultLine → List FaultLine

@@ -3,10 +3,11 @@ use Rattle.std.proofs.Common.{◌≡◌, ℕ, List, [], ◌∷◌, ◌++◌, len
 use Rattle.chare_base.specs.Flip.{Flip}
 use Rattle.chare_base.specs.declared.plan.Plan.{Plan}
 use Rattle.chare_eval.specs.Fold.{fold}
+use Rattle.chare_eval.specs.Laws.{flips_before}
 use Rattle.pup_state.specs.Spelling.{pack}
 use Rattle.run_ledger.specs.declared.record.Record.{Record}
 use Rattle.run_ledger.specs.declared.record.Record.TheVariants.{Accept, Done}
-use Rattle.run_ledger.specs.Ledger.{Ledger, start, lineage, flips_before, after}
+use Rattle.run_ledger.specs.Ledger.{Ledger, start, lineage, after}
 use Rattle.run_ledger.proofs.Fair.{Quiet, quiet_start, quiet_lineage, quiet_after}
 use Rattle.run_report.specs.Lines.{first_line, accepted_line}
 use Rattle.run_report.specs.Answers.{ending}

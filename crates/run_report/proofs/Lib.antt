@@ -1,3 +1,5 @@
 pub mod FaultFree
-pub mod Sums
+pub mod Joins
+pub mod Sides
+pub mod Cuts
 pub mod Ends

@@ -1,4 +1,6 @@
 pub mod Lines
+pub mod Names
+pub mod Slips
 pub mod Answers
 pub mod Report
 pub mod Laws

@@ -3,10 +3,11 @@ use Rattle.std.specs.Prelude.{ℕ, List, [], ◌∷◌, ◌++◌, length}
 use Rattle.chare_base.specs.declared.options.Options.{Options}
 use Rattle.chare_base.specs.declared.plan.Plan.{Plan}
 use Rattle.chare_eval.specs.Fold.{fold, plain}
+use Rattle.chare_eval.specs.Laws.{flips_before}
 use Rattle.pup_state.specs.Spelling.{pack}
 use Rattle.run_ledger.specs.declared.record.Record.{Record}
 use Rattle.run_ledger.specs.declared.record.Record.TheVariants.{Accept, Done}
-use Rattle.run_ledger.specs.Ledger.{FaultLine, Ledger, start, lineage, flips_before, after}
+use Rattle.run_ledger.specs.Ledger.{FaultLine, Ledger, start, lineage, after}
 use Rattle.run_ledger.specs.Lawful.{checkpoint}
 use Rattle.run_report.specs.Lines.{first_line, accepted_line}
 use Rattle.run_report.specs.Answers.{ending}

@@ -14,7 +14,7 @@ use sha2::{Digest, Sha256};
 use std::alloc::Global;
 
 // A number in decimal.
-fn put_number(alloc: Global, out: &mut Bytes, number: u64) -> Result<(), Memory>
+pub(crate) fn put_number(alloc: Global, out: &mut Bytes, number: u64) -> Result<(), Memory>
     ensures { OnOk result (out.new ≡ out.old ++ decimal number) }
 {
     let text = number.to_string(alloc)?;
@@ -22,7 +22,12 @@ fn put_number(alloc: Global, out: &mut Bytes, number: u64) -> Result<(), Memory>
 }
 
 // A word, which ends with a blank, and a number.
-fn put_named(alloc: Global, out: &mut Bytes, word: &[u8], number: u64) -> Result<(), Memory>
+pub(crate) fn put_named(
+    alloc: Global,
+    out: &mut Bytes,
+    word: &[u8],
+    number: u64,
+) -> Result<(), Memory>
     ensures { OnOk result (out.new ≡ out.old ++ (word.now ++ decimal number)) }
 {
     out.extend(word)?;

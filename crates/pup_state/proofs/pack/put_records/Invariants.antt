@@ -4,4 +4,4 @@ use Rattle.pup_state.proofs.pack.put_records.Given as goal
 
 -- the records of the elements that are left go behind those that were put
 abbrev pub invariant-loop-e : goal.invariant-loop-e
-invariant-loop-e l = l.out.items ++ records_from l.plan l.done l.e (drop l.e l.all) ≡ l.fn.out.items ++ records_from l.plan l.done 0 l.all
+invariant-loop-e l = l.out ++ records_from l.plan l.done l.e (drop l.e l.all) ≡ l.fn.out ++ records_from l.plan l.done 0 l.all
