@@ -3,7 +3,7 @@
 ghost use Rattle.std.specs.Prelude.{◌≡◌, ◌==◌, [], IfOk};
 ghost use Rattle.std.specs.List.{list_any};
 
-use chare_base::memory::Memory;
+use chare_bytes::memory::Memory;
 use std::alloc::Global;
 use std::marker::Model;
 
@@ -40,25 +40,9 @@ impl Calls {
     }
 
     /// Whether the call of a number fails.
-    pub fn contains(&self, call: u64) -> bool
+    pub(crate) fn contains(&self, call: u64) -> bool
         ensures { result ≡ list_any (λ n. n == call) self.now }
     {
         self.numbers.iter().any(|n| *n == call)
-    }
-}
-
-#[cfg(test)]
-mod tests {
-    use super::*;
-    use std::test::Fail;
-
-    #[test]
-    fn knows_its_numbers(rt: HostRuntime) -> Result<(), Fail> {
-        let calls = Calls::from_slice(rt.alloc(), &[0, 7])?;
-        assert!(rt; calls.contains(0));
-        assert!(rt; calls.contains(7));
-        assert!(rt; !calls.contains(1));
-        assert!(rt; !Calls::none(rt.alloc()).contains(0));
-        Ok(())
     }
 }

@@ -1,12 +1,12 @@
 //! Sources and sinks, and how a whole text is read and written.
 
-ghost use Rattle.std.specs.Prelude.{◌≡◌, ℕ, ◌<◌, ◌≤◌, ◌++◌, List, Option, Err, length, take, IfOk, OnErr, OnOk};
+ghost use Rattle.std.specs.Prelude.{◌≡◌, ℕ, ◌+◌, ◌<◌, ◌≤◌, ◌++◌, List, Option, Err, length, take, IfOk, OnErr, OnOk};
 ghost use Rattle.std.specs.Io.KnownBytes.{Consumes, Appends, IsAtEnd, Keeps};
-ghost use Rattle.outside_io.specs.Faults.{Rose};
+ghost use Rattle.outside_io.specs.Counts.{raised, Rose};
 ghost use Rattle.outside_io.specs.Parts.{ConsumesPart, AppendsPart};
 
-use chare_base::bytes::Bytes;
-use chare_base::memory::Memory;
+use chare_bytes::bytes::Bytes;
+use chare_bytes::memory::Memory;
 use std::alloc::Global;
 use thiserror::Error;
 
@@ -20,18 +20,22 @@ pub trait Source {
     /// The bytes that are left, where they are told.
     ghost left: { Self → Option (List ℕ) };
 
+    /// How many takes there were, up to the greatest `u64`.
+    ghost takes: { Self → ℕ };
+
     /// How many takes failed, up to the greatest `u64`.
     ghost faults: { Self → ℕ };
 
     /// Takes bytes from the front of what is left into the front of a buffer, and tells how many.
     ///
-    /// `Ok(0)` for a buffer that isn't empty is the end. A take that fails takes nothing, and raises the
-    /// count of faults; the count never falls.
+    /// `Ok(0)` for a buffer that isn't empty is the end. Each take raises the count of takes by one. A take
+    /// that fails takes nothing, and raises the count of faults; that count never falls.
     fn take(&mut self, buf: &mut [u8]) -> Result<usize, Failed>
         ensures bound { IfOk result (λ n. n ≤ length buf.old) }
         ensures ok { IfOk result (λ n. Consumes (left self.old) (left self.new) (take n buf.new)) }
         ensures end { IfOk result (λ n. n ≡ 0 → 0 < length buf.old → IsAtEnd (left self.new)) }
         ensures err { OnErr result (Keeps (left self.old) (left self.new)) }
+        ensures takes { takes self.new ≡ raised (takes self.old) }
         ensures count { faults self.old ≤ faults self.new }
         ensures cause { OnErr result (Rose (faults self.old) (faults self.new)) };
 }
@@ -67,11 +71,12 @@ pub enum ReadFault {
     Memory,
 }
 
-/// Reads until the source ends or until so many bytes have come. No more than these are
-/// taken, by at most as many takes.
+/// Reads until the source ends or until `limit` bytes have come. No more than these are taken, by at most
+/// `limit` takes: one for each byte that came, and one that finds the end.
 ///
 /// `Failed` is a take that failed, and `Memory` want of memory for the bytes that came. After either the
-/// bytes that were taken before it are lost.
+/// source has lost the bytes that were taken before it, at most `limit` from its front. Fewer than `limit`
+/// bytes are all that was left: the source is at its end.
 pub fn read_up_to<S: Source>(
     alloc: Global,
     source: &mut S,
@@ -81,6 +86,8 @@ pub fn read_up_to<S: Source>(
     ensures bytes { IfOk result (λ bytes. Consumes (S.left source.old) (S.left source.new) bytes) }
     ensures end { IfOk result (λ bytes. length bytes < limit → IsAtEnd (S.left source.new)) }
     ensures part { OnErr result (ConsumesPart (S.left source.old) (S.left source.new) limit) }
+    ensures takes { S.takes source.new ≤ S.takes source.old + limit }
+    ensures each { IfOk result (λ bytes. S.takes source.new ≤ S.takes source.old + (length bytes + 1)) }
     ensures cause { result ≡ Err ReadFault.Failed → Rose (S.faults source.old) (S.faults source.new) }
     ensures count { S.faults source.old ≤ S.faults source.new }
 {
@@ -106,6 +113,7 @@ fn take_some<S: Source>(
     ensures bytes { IfOk result (λ n. (new : List ℕ) × (length new ≡ n) × (all.new ≡ all.old ++ new) × Consumes (S.left source.old) (S.left source.new) new) }
     ensures end { IfOk result (λ n. n ≡ 0 → 0 < most → 0 < length buf.old → IsAtEnd (S.left source.new)) }
     ensures part { OnErr result (ConsumesPart (S.left source.old) (S.left source.new) most) }
+    ensures takes { S.takes source.new ≤ S.takes source.old + 1 }
     ensures cause { result ≡ Err ReadFault.Failed → Rose (S.faults source.old) (S.faults source.new) }
     ensures count { S.faults source.old ≤ S.faults source.new }
 {
@@ -134,46 +142,4 @@ pub fn write_all<K: Sink>(sink: &mut K, bytes: &[u8]) -> Result<(), Failed>
         rest = rest.split_at(n).1;
     }
     Ok(())
-}
-
-#[cfg(test)]
-mod tests {
-    use super::*;
-    use crate::calls::Calls;
-    use crate::memory_sink::MemorySink;
-    use crate::memory_source::MemorySource;
-    use std::test::Fail;
-
-    #[test]
-    fn reads_up_to_the_limit_or_the_end(rt: HostRuntime) -> Result<(), Fail> {
-        let bytes = Bytes::from_slice(rt.alloc(), &[7; 5000])?;
-        let mut source = MemorySource::start(bytes, Calls::none(rt.alloc()));
-        let front = read_up_to(rt.alloc(), &mut source, 4500)?;
-        assert_eq!(rt; front.len(), 4500);
-        assert_eq!(rt; source.taken, 4500);
-        let rest = read_up_to(rt.alloc(), &mut source, 4500)?;
-        assert!(rt; rest.as_slice() == [7; 500].as_slice());
-        assert_eq!(rt; read_up_to(rt.alloc(), &mut source, 0)?.len(), 0);
-        Ok(())
-    }
-
-    #[test]
-    fn tells_a_take_that_failed(rt: HostRuntime) -> Result<(), Fail> {
-        let bytes = Bytes::from_slice(rt.alloc(), b"abc")?;
-        let failing = Calls::from_slice(rt.alloc(), &[1])?;
-        let mut source = MemorySource::start(bytes, failing);
-        let outcome = read_up_to(rt.alloc(), &mut source, 100);
-        assert!(rt; outcome.err() == Some(ReadFault::Failed));
-        assert_eq!(rt; source.faults, 1);
-        Ok(())
-    }
-
-    #[test]
-    fn writes_all_or_tells_a_give_that_failed(rt: HostRuntime) -> Result<(), Fail> {
-        let mut sink = MemorySink::start(rt.alloc(), 10, Calls::none(rt.alloc()))?;
-        write_all(&mut sink, b"1234567")?;
-        assert_eq!(rt; write_all(&mut sink, b"abcdef"), Err(Failed));
-        assert!(rt; sink.given() == b"1234567abc".as_slice());
-        Ok(())
-    }
 }

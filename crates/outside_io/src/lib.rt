@@ -1,7 +1,8 @@
 //! The outside: where bytes come from and where they go.
 //!
 //! A program above this layer reads a `Source` and writes a `Sink`, whatever stands behind them. Both count
-//! their faults: a call fails only where the count rose, and then moved no byte. Where an implementation
+//! their faults: a call fails only where the count rose, and then moved no byte. A source also counts its
+//! takes, so that a contract can bound them. Where an implementation
 //! tells its bytes, each call says which ones it moved; `read_up_to` and `write_all` say it of a whole text.
 //!
 //! `MemorySource` and `MemorySink` keep their bytes in memory and fail at the calls that they are told to.

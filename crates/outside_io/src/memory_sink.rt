@@ -2,11 +2,11 @@
 
 ghost use Rattle.std.specs.Prelude.{◌≡◌, ◌+◌, ◌++◌, ◌==◌, ◌≤◌, ◌<◌, if◌then◌else◌, ◌||◌, ◌&&◌, not, [], length, min, take, is_err, IfOk, OnErr, vec_len, vec_capacity};
 ghost use Rattle.std.specs.List.{list_any};
-ghost use Rattle.outside_io.specs.Faults.{raised, Rose};
+ghost use Rattle.outside_io.specs.Counts.{raised, Rose};
 
 use crate::calls::Calls;
 use crate::edge::{Failed, Sink};
-use chare_base::memory::Memory;
+use chare_bytes::memory::Memory;
 use std::alloc::Global;
 
 /// A sink in memory, which tells what was given and holds no more than it has room for.

@@ -2,11 +2,11 @@
 
 ghost use Rattle.std.specs.Prelude.{◌≡◌, ◌++◌, ◌-◌, ◌==◌, ◌≤◌, ◌<◌, if◌then◌else◌, [], length, min, take, drop, is_err, IfOk, OnErr};
 ghost use Rattle.std.specs.List.{list_any};
-ghost use Rattle.outside_io.specs.Faults.{raised, Rose};
+ghost use Rattle.outside_io.specs.Counts.{raised, Rose};
 
 use crate::calls::Calls;
 use crate::edge::{Failed, Source};
-use chare_base::bytes::Bytes;
+use chare_bytes::bytes::Bytes;
 
 /// A source of bytes in memory, which tells what is left of them.
 #[derive(Drop)]
@@ -49,6 +49,8 @@ impl Source for MemorySource {
 
     ghost left = { λ s. Some (drop s.taken s.bytes) };
 
+    ghost takes = { λ s. s.calls };
+
     ghost faults = { λ s. s.faults };
 
     /// Takes all that is left or that fits, unless the call is one that fails.
@@ -57,6 +59,7 @@ impl Source for MemorySource {
         ensures ok { IfOk result (λ n. drop self.old.taken self.old.bytes ≡ take n buf.new ++ drop self.new.taken self.new.bytes) }
         ensures end { IfOk result (λ n. n ≡ 0 → 0 < length buf.old → drop self.new.taken self.new.bytes ≡ []) }
         ensures err { OnErr result (drop self.new.taken self.new.bytes ≡ drop self.old.taken self.old.bytes) }
+        ensures takes { self.new.calls ≡ raised self.old.calls }
         ensures count { self.old.faults ≤ self.new.faults }
         ensures cause { OnErr result (Rose self.old.faults self.new.faults) }
 
@@ -64,7 +67,6 @@ impl Source for MemorySource {
         ensures fails { is_err result ≡ list_any (λ n. n == self.old.calls) self.old.failing }
         ensures most { IfOk result (λ n. n ≡ min (length buf.old) (length self.old.bytes - self.old.taken)) }
         ensures bytes { self.new.bytes ≡ self.old.bytes }
-        ensures calls { self.new.calls ≡ raised self.old.calls }
         ensures faults { self.new.faults ≡ (if is_err result then raised self.old.faults else self.old.faults) }
         ensures failing { self.new.failing ≡ self.old.failing }
     {
@@ -88,26 +90,4 @@ fn put_front(buf: &mut [u8], bytes: &[u8]) -> usize
     let n = buf.len().min(bytes.len());
     buf[..n].copy_from_slice(&bytes[..n]);
     n
-}
-
-#[cfg(test)]
-mod tests {
-    use super::*;
-    use std::test::Fail;
-
-    #[test]
-    fn fails_at_a_call_and_takes_nothing_there(rt: HostRuntime) -> Result<(), Fail> {
-        let bytes = Bytes::from_slice(rt.alloc(), b"abcdef")?;
-        let failing = Calls::from_slice(rt.alloc(), &[1])?;
-        let mut source = MemorySource::start(bytes, failing);
-        let mut buf = [0; 4];
-        assert_eq!(rt; source.take(&mut buf), Ok(4));
-        assert!(rt; buf.as_slice() == b"abcd".as_slice());
-        assert_eq!(rt; source.take(&mut buf), Err(Failed));
-        assert_eq!(rt; source.faults, 1);
-        assert_eq!(rt; source.take(&mut buf), Ok(2));
-        assert!(rt; buf.as_slice() == b"efcd".as_slice());
-        assert_eq!(rt; source.take(&mut buf), Ok(0));
-        Ok(())
-    }
 }

@@ -44,24 +44,53 @@ impl<W: Write> Sink for StdSink<W> {
 mod tests {
     use super::*;
     use crate::edge::write_all;
+    use std::io;
     use std::test::Fail;
 
-    #[test]
-    fn writes_a_vector(rt: HostRuntime) -> Result<(), Fail> {
-        let mut sink = StdSink::start(Vec::new(rt.alloc()));
-        write_all(&mut sink, b"hello")?;
-        assert!(rt; sink.writer.as_slice() == b"hello".as_slice());
-        assert_eq!(rt; sink.faults, 0);
-        Ok(())
+    // A writer in memory that takes three bytes for each call, and fails at one of them.
+    #[derive(Drop)]
+    struct Broken<'a> {
+        room: &'a mut [u8],
+        call: u64,
+        failing: u64,
+    }
+
+    impl Write for Broken<'_> {
+        fn write(&mut self, bytes: &[u8]) -> io::Result<usize> {
+            let call = self.call;
+            self.call = call.saturating_add(1);
+            if call == self.failing {
+                return Err(io::Error::from(io::ErrorKind::Other));
+            }
+            let n = bytes.len().min(3);
+            self.room.write(&bytes[..n])
+        }
+
+        fn flush(&mut self) -> io::Result<()> {
+            Ok(())
+        }
     }
 
     #[test]
-    fn counts_a_write_of_nothing(rt: HostRuntime) -> Result<(), Fail> {
-        let mut room = [0; 2];
-        let mut sink = StdSink::start(room.as_mut_slice());
-        assert_eq!(rt; write_all(&mut sink, b"abc"), Err(Failed));
-        assert_eq!(rt; sink.faults, 1);
-        assert_eq!(rt; sink.give(b""), Ok(0));
+    fn a_write_that_fails_is_counted(rt: HostRuntime) -> Result<(), Fail> {
+        // The failing write, how much room there is, what was given, and whether all of it was.
+        for (failing, size, given, holds) in [
+            (3, 8, b"1234567\0".as_slice(), true),
+            (2, 8, b"123456\0\0".as_slice(), false),
+            (0, 8, b"\0\0\0\0\0\0\0\0".as_slice(), false),
+            // the third write finds no room, and takes nothing
+            (3, 5, b"12345\0\0\0".as_slice(), false),
+        ] {
+            let mut room = [0; 8];
+            let mut sink = StdSink::start(Broken {
+                room: &mut room[..size],
+                call: 0,
+                failing,
+            });
+            assert_eq!(rt; write_all(&mut sink, b"1234567").is_ok(), holds);
+            assert_eq!(rt; sink.faults, if holds { 0 } else { 1 });
+            assert!(rt; room.as_slice() == given);
+        }
         Ok(())
     }
 }

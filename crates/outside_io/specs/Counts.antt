@@ -1,4 +1,4 @@
--- Counts of faults, up to the greatest `u64`.
+-- Counts of calls and of faults, up to the greatest `u64`.
 use Rattle.std.specs.Prelude.{ℕ, ◌+◌, ◌-◌, ◌^◌, ◌≤◌, min}
 
 -- one more, up to the greatest
