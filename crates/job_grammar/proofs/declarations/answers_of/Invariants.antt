@@ -1,0 +1,15 @@
+use Rattle.std.proofs.Common.{◌≡◌, ◌<◌, length}
+use Rattle.job_grammar.specs.declared.token.Mark.TheVariants as marks
+use Rattle.job_grammar.specs.Readers.{is_mark, many}
+use Rattle.job_grammar.specs.Reading.{answer_at, answers_at}
+use Rattle.job_grammar.proofs.Loops.{with_front}
+use Rattle.job_grammar.proofs.declarations.answers_of.Given as goal
+
+abbrev pub invariant-answers : goal.invariant-answers
+invariant-answers l = record {
+  told : with_front l.answers (many (is_mark marks.Answer) (answer_at l.levels) l.rest) ≡ answers_at l.levels l.tokens;
+  shorter : length l.rest < length l.tokens;
+}
+
+abbrev pub decreases-answers : goal.decreases-answers
+decreases-answers l = length l.rest

@@ -1,0 +1,15 @@
+use Rattle.std.proofs.Common.{◌≡◌, ◌<◌, length}
+use Rattle.job_grammar.specs.declared.token.Mark.TheVariants as marks
+use Rattle.job_grammar.specs.Readers.{is_mark, many}
+use Rattle.job_grammar.specs.Reading.{array_at, arrays_at}
+use Rattle.job_grammar.proofs.Loops.{with_front}
+use Rattle.job_grammar.proofs.declarations.arrays_of.Given as goal
+
+abbrev pub invariant-arrays : goal.invariant-arrays
+invariant-arrays l = record {
+  told : with_front l.arrays (many (is_mark marks.Array) (array_at l.levels) l.rest) ≡ arrays_at l.levels l.tokens;
+  shorter : length l.rest < length l.tokens;
+}
+
+abbrev pub decreases-arrays : goal.decreases-arrays
+decreases-arrays l = length l.rest
