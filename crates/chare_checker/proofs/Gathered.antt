@@ -7,10 +7,6 @@ use Rattle.chare_checker.specs.Options.{◌>>=◌, all_some}
 abbrev pub with_front : {A : Type 0} → List A → Option (List A) → Option (List A)
 with_front front rest = rest >>= λ ys. Some (front ++ ys)
 
-pub front_nil : {A : Type 0} (rest : Option (List A)) → with_front [] rest ≡ rest
-front_nil None = refl
-front_nil (Some ys) = refl
-
 fronts : {A : Type 0} (front : List A) (x : A) (rest : Option (List A)) → with_front front (rest >>= λ ys. Some (x ∷ ys)) ≡ with_front (front ++ x ∷ []) rest
 fronts front x None = refl
 fronts front x (Some ys) = ap (λ l. Some l) (sym (append_assoc front (x ∷ []) ys))
@@ -28,9 +24,3 @@ module _ {A B : Type 0} (f : A → Option B) (xs : List A) (i : ℕ) (x : A) (h 
       ∙ ap (λ o. with_front front (o >>= λ z. all_some (map f (drop (i + 1) xs)) >>= λ zs. Some (z ∷ zs))) (sym fx)
       ∙ ap (λ l. with_front front (all_some (map f l))) (sym split)
       ∙ told
-
-  -- a value that is missing
-  pub gather_none : (front : List B) (whole : Option (List B)) → f x ≡ None → with_front front (all_some (map f (drop i xs))) ≡ whole → whole ≡ None
-  gather_none front whole fx told =
-      sym told ∙ ap (λ l. with_front front (all_some (map f l))) split
-      ∙ ap (λ o. with_front front (o >>= λ z. all_some (map f (drop (i + 1) xs)) >>= λ zs. Some (z ∷ zs))) fx

@@ -1,4 +1,5 @@
 pub mod Gathered
+pub mod Numbered
 pub mod Operands
 pub mod Sealing
 pub mod Texts

@@ -1,7 +1,7 @@
 -- Which texts are accepted, and as which plan.
 use Rattle.std.specs.Prelude.{◌≡◌, ℕ, List, Some}
 use Rattle.chare_base.specs.declared.plan.Plan.{Plan}
-use Rattle.chare_base.specs.Elements.{parts_of}
+use Rattle.chare_base.specs.Elements.{fields_of}
 use Rattle.chare_syntax.specs.declared.tree.Job.{Job}
 use Rattle.chare_syntax.specs.Text.{ReadsAs}
 use Rattle.chare_checker.specs.Planned.{planned}
@@ -10,7 +10,7 @@ use Rattle.chare_checker.specs.Planned.{planned}
 pub record IsPlan (text : List ℕ) (p : Plan) : Type 0 where
   pub job : Job
   pub reads : ReadsAs text job
-  pub plans : planned text job ≡ Some (parts_of p)
+  pub plans : planned text job ≡ Some (fields_of p)
 
 -- a text is no job
 abbrev pub HasNoPlan : List ℕ → Type 0
@@ -18,4 +18,4 @@ HasNoPlan text = (p : Plan) → IsPlan text p → ⊥
 
 -- the plans of one text have the same parts
 abbrev pub OnePlan : Type 0
-OnePlan = (text : List ℕ) (p q : Plan) → IsPlan text p → IsPlan text q → parts_of p ≡ parts_of q
+OnePlan = (text : List ℕ) (p q : Plan) → IsPlan text p → IsPlan text q → fields_of p ≡ fields_of q

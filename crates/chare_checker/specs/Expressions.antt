@@ -1,10 +1,18 @@
 -- The plan of an expression.
 use Rattle.std.specs.Prelude.{ℕ, ◌^◌, pos, if◌then◌else◌, nat_lt, List, [], ◌∷◌, Option, Some, None}
+use Rattle.chare_base.specs.declared.expression.AddOp.{AddOp}
+use Rattle.chare_base.specs.declared.expression.AddOp.TheVariants as adds
+use Rattle.chare_base.specs.declared.expression.MulOp.{MulOp}
+use Rattle.chare_base.specs.declared.expression.MulOp.TheVariants as muls
 use Rattle.chare_base.specs.declared.expression.Expr.{Expr}
 use Rattle.chare_base.specs.declared.expression.Expr.TheVariants as exprs
 use Rattle.chare_base.specs.declared.expression.Factor.{Factor, roll-Factor}
 use Rattle.chare_base.specs.declared.expression.Term.{Term, roll-Term}
 use Rattle.chare_syntax.specs.declared.token.Span.{Span}
+use Rattle.chare_syntax.specs.declared.tree.AddOp as tree_add
+use Rattle.chare_syntax.specs.declared.tree.AddOp.TheVariants as tree_adds
+use Rattle.chare_syntax.specs.declared.tree.MulOp as tree_mul
+use Rattle.chare_syntax.specs.declared.tree.MulOp.TheVariants as tree_muls
 use Rattle.chare_syntax.specs.declared.tree.StateDecl.{StateDecl}
 use Rattle.chare_syntax.specs.declared.tree.Product.{Product}
 use Rattle.chare_syntax.specs.declared.tree.ProductTerm.{ProductTerm}
@@ -23,6 +31,14 @@ Planned = Option Expr
 -- a number of 63 bits
 abbrev pub literal : ℕ → Planned
 literal n = if nat_lt n (2 ^ 63) then Some (exprs.Number (pos n)) else None
+
+-- operators of a text and of a plan
+abbrev pub add_op : tree_add.AddOp → AddOp
+add_op tree_adds.Plus = adds.Plus
+add_op tree_adds.Minus = adds.Minus
+
+abbrev pub mul_op : tree_mul.MulOp → MulOp
+mul_op tree_muls.Times = muls.Times
 
 -- one operand alone is itself
 abbrev pub sum_of : Expr → List Term → Expr
@@ -48,20 +64,20 @@ module _ (text : List ℕ) (params : List Span) (states : List StateDecl) where
   atom_step (Atom-F.Group e) = e
 
   abbrev pub unary_step : Unary-F Planned Planned Planned (Option Factor) Planned (Option Term) → Planned
-  unary_step (Unary-F.Minus e) = e >>= λ operand. Some (exprs.Negate operand)
+  unary_step (Unary-F.Minus e) = e >>= λ operand. Some (exprs.Minus operand)
   unary_step (Unary-F.Atom a) = a
 
   abbrev pub product_step : Product-F Planned Planned Planned (Option Factor) Planned (Option Term) → Planned
   product_step p = p.first >>= λ first. all_some p.others >>= λ others. Some (product_of first others)
 
   abbrev pub factor_step : ProductTerm-F Planned Planned Planned (Option Factor) Planned (Option Term) → Option Factor
-  factor_step f = f.value >>= λ value. Some (roll-Factor (record { op = f.op; value = value }))
+  factor_step f = f.value >>= λ value. Some (roll-Factor (record { op = mul_op f.op; value = value }))
 
   abbrev pub sum_step : Sum-F Planned Planned Planned (Option Factor) Planned (Option Term) → Planned
   sum_step s = s.first >>= λ first. all_some s.others >>= λ others. Some (sum_of first others)
 
   abbrev pub term_step : SumTerm-F Planned Planned Planned (Option Factor) Planned (Option Term) → Option Term
-  term_step t = t.value >>= λ value. Some (roll-Term (record { op = t.op; value = value }))
+  term_step t = t.value >>= λ value. Some (roll-Term (record { op = add_op t.op; value = value }))
 
   abbrev pub atom_planned : Atom → Planned
   atom_planned = fold-Atom Planned Planned Planned (Option Factor) Planned (Option Term) atom_step unary_step product_step factor_step sum_step term_step

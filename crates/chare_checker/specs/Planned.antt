@@ -1,5 +1,5 @@
 -- The plan of a job's tree.
-use Rattle.std.specs.Prelude.{ℕ, ℤ, pos, ◌-ℤ◌, Bool, true, false, ◌&&◌, if◌then◌else◌, List, [], ◌∷◌, length, map, slice_get, Option, Some, None}
+use Rattle.std.specs.Prelude.{ℕ, suc, ℤ, pos, ◌-ℤ◌, Bool, true, false, ◌&&◌, if◌then◌else◌, List, [], ◌∷◌, length, map, slice_get, Option, Some, None}
 use Rattle.chare_base.specs.declared.expression.Expr.{Expr}
 use Rattle.chare_base.specs.declared.message.Need.{Need}
 use Rattle.chare_base.specs.declared.message.Need.TheVariants as needs
@@ -14,12 +14,10 @@ use Rattle.chare_base.specs.declared.plan.How.TheVariants as how
 use Rattle.chare_base.specs.declared.plan.State.{State}
 use Rattle.chare_base.specs.declared.plan.Step.{Step}
 use Rattle.chare_base.specs.declared.plan.Stmt.{Stmt}
-use Rattle.chare_base.specs.declared.plan.Stmt.TheVariants.{Set, Send}
-use Rattle.chare_base.specs.Elements.{Parts}
-use Rattle.chare_base.specs.Limits.{between, limits_hold}
-use Rattle.chare_base.specs.Names.{names_hold}
-use Rattle.chare_base.specs.Ports.{ports_hold}
-use Rattle.chare_base.specs.Ranges.{ranges_hold}
+use Rattle.chare_base.specs.declared.plan.Stmt.TheVariants as stmts
+use Rattle.chare_base.specs.Elements.{Fields}
+use Rattle.chare_base.specs.Limits.{between}
+use Rattle.chare_base.specs.Rules.{rules_hold}
 use Rattle.chare_syntax.specs.declared.token.Num.{Num}
 use Rattle.chare_syntax.specs.declared.token.Span.{Span}
 use Rattle.chare_syntax.specs.declared.tree.AnswerDecl.{AnswerDecl}
@@ -46,9 +44,15 @@ use Rattle.chare_checker.specs.Expressions.{sum_planned}
 abbrev pub bounded : ℕ → ℕ → ℕ → Option ℕ
 bounded low high n = if between low high n then Some n else None
 
--- An initial value names no state.
-abbrev pub state_planned : List ℕ → StateDecl → Option State
-state_planned text s = sum_planned text [] [] s.start >>= λ start. Some (record { name = bytes_at text s.name; start = start })
+-- A state of one cell, from a number on. Its initial value names no state.
+abbrev pub state_planned : List ℕ → ℕ → StateDecl → Option State
+state_planned text at s =
+    sum_planned text [] [] s.start >>= λ start. Some (record { name = bytes_at text s.name; plain = true; at = at; cells = 1; start = start })
+
+-- the states, the first of which has the given number
+abbrev pub states_planned : List ℕ → ℕ → List StateDecl → Option (List State)
+states_planned text at [] = Some []
+states_planned text at (s ∷ more) = state_planned text at s >>= λ state. states_planned text (suc at) more >>= λ states. Some (state ∷ states)
 
 -- how many values a message has: one where the text doesn't say it
 abbrev pub count_planned : Option Num → Option ℕ
@@ -72,12 +76,12 @@ abbrev pub entry_planned : List ℕ → ArrayDecl → EntryDecl → Option Entry
 entry_planned text a e =
     if same_name text e.source a.name then
     (count_planned e.values >>= λ values. signed_planned 8 e.offset >>= λ across. edge_planned e.edge >>= λ edge.
-    Some (record { name = bytes_at text e.name; owner = 0; source = 0; across = across; edge = edge; values = values }))
+    Some (record { name = bytes_at text e.name; owner = 0; source = 0; down = pos 0; across = across; edge = edge; values = values }))
     else None
 
 abbrev pub assign_planned : List ℕ → List Span → List StateDecl → Span → Sum → Option Stmt
 assign_planned text params states target value =
-    state_named text states target >>= λ number. sum_planned text params states value >>= λ e. Some (Set number e)
+    state_named text states target >>= λ number. sum_planned text params states value >>= λ e. Some (stmts.Set number e)
 
 abbrev pub values_sent : List ℕ → List Span → List StateDecl → List Sum → Option (List Expr)
 values_sent text params states values = all_some (map (sum_planned text params states) values)
@@ -85,7 +89,7 @@ values_sent text params states values = all_some (map (sum_planned text params s
 -- values to the entry of a name
 abbrev pub sent_planned : List ℕ → List EntryDecl → List Span → List StateDecl → SendDecl → Option Stmt
 sent_planned text entries params states send =
-    entry_named text entries send.entry >>= λ number. values_sent text params states send.values >>= λ values. Some (Send (record { 0 = number }) values)
+    entry_named text entries send.entry >>= λ number. values_sent text params states send.values >>= λ values. Some (stmts.Send (record { 0 = number }) values)
 
 -- a send to the one array there is
 abbrev pub send_planned : List ℕ → ArrayDecl → List Span → SendDecl → Option Stmt
@@ -125,28 +129,26 @@ array_planned text a =
     bounded 1 4096 a.size.value >>= λ cols.
     bounded 1 16 (length a.states) >>= λ count.
     bounded 0 16 (length a.entries) >>= λ ports.
-    all_some (map (state_planned text) a.states) >>= λ states.
+    states_planned text 0 a.states >>= λ states.
     all_some (map (step_planned text a) a.steps) >>= λ steps.
-    Some (record { name = bytes_at text a.name; cols = cols; states = states; steps = steps })
+    Some (record { name = bytes_at text a.name; flat = true; rows = 1; cols = cols; first = 0; states = states; steps = steps })
 
 -- a state of the one array there is
 abbrev pub answer_planned : List ℕ → ArrayDecl → AnswerDecl → Option Answer
 answer_planned text a (answers.Sum array state) =
     if same_name text array a.name then (state_named text a.states state >>= λ number. Some (Over how.Sum 0 number)) else None
 
-abbrev pub job_planned : List ℕ → Job → Option Parts
+abbrev pub job_planned : List ℕ → Job → Option Fields
 job_planned text job =
     array_planned text job.array >>= λ array.
     all_some (map (entry_planned text job.array) job.array.entries) >>= λ entries.
     all_some (map (answer_planned text job.array) job.answers) >>= λ answers.
-    Some (record { name = bytes_at text job.name; iterations = job.iterations.value; arrays = array ∷ []; entries = entries; answers = answers })
+    Some (record { name = bytes_at text job.name; iterations = job.iterations.value; arrays = array ∷ []; entries = entries; reductions = []; answers = answers })
 
 -- the rules that a plan's type keeps
-abbrev pub sealed : Parts → Option Parts
-sealed p =
-    if limits_hold p.name p.iterations p.arrays p.entries p.answers && ranges_hold p.arrays p.entries p.answers && names_hold p.arrays p.entries && ports_hold p.arrays p.entries
-    then Some p else None
+abbrev pub sealed : Fields → Option Fields
+sealed p = if rules_hold p.name p.iterations p.arrays p.entries p.reductions p.answers then Some p else None
 
 -- a tree's plan, where every rule holds
-unfoldable pub planned : List ℕ → Job → Option Parts
+unfoldable pub planned : List ℕ → Job → Option Fields
 planned text job = job_planned text job >>= sealed

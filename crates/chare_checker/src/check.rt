@@ -1,9 +1,9 @@
 //! The plan of a job's tree.
 
 ghost use Rattle.std.specs.Prelude.{◌≡◌, ◌^◌, ◌<◌, ◌≤◌, length, map, IfOk, IfErr, Some, None};
-ghost use Rattle.chare_base.specs.Elements.{parts_of};
+ghost use Rattle.chare_base.specs.Elements.{fields_of};
 ghost use Rattle.chare_checker.specs.Options.{Gives, all_some};
-ghost use Rattle.chare_checker.specs.Planned.{answer_planned, array_planned, bounded, planned, state_planned};
+ghost use Rattle.chare_checker.specs.Planned.{answer_planned, array_planned, bounded, planned, state_planned, states_planned};
 
 use crate::entries::plan_entries;
 use crate::expressions::plan_sum;
@@ -19,7 +19,7 @@ use std::alloc::Global;
 /// The plan of a tree. Refused exactly where a rule of the language is broken.
 #[tactic(auto, unfolding(crate::specs::Planned::planned))]
 pub fn check(alloc: Global, ast: &Ast) -> Result<Plan, CheckFault>
-    ensures { Gives parts_of result (planned ast.now.text ast.now.job) }
+    ensures { Gives fields_of result (planned ast.now.text ast.now.job) }
 {
     let text = ast.text.as_slice();
     let array = plan_array(alloc, text, &ast.job.array)?;
@@ -28,14 +28,21 @@ pub fn check(alloc: Global, ast: &Ast) -> Result<Plan, CheckFault>
     let name = Name::from_slice(alloc, bytes_at(text, ast.job.name))?;
     let mut arrays = Items::new(alloc);
     arrays.push(array)?;
-    match Plan::sealed(name, ast.job.iterations.value, arrays, entries, answers) {
+    match Plan::sealed(
+        name,
+        ast.job.iterations.value,
+        arrays,
+        entries,
+        Items::new(alloc),
+        answers,
+    ) {
         Some(plan) => Ok(plan),
         None => Err(CheckFault::Refused),
     }
 }
 
 /// A number, where it is from low to high.
-pub fn bounded(low: u64, high: u64, number: u64) -> Result<u64, CheckFault>
+pub(crate) fn bounded(low: u64, high: u64, number: u64) -> Result<u64, CheckFault>
     ensures exact { Gives (λ n. n) result (bounded low high number) }
     ensures within { IfOk result (λ n. n ≤ high) }
 {
@@ -57,30 +64,37 @@ fn plan_array(alloc: Global, text: &[u8], array: &ArrayDecl) -> Result<Array, Ch
     let steps = plan_steps(alloc, text, array)?;
     Ok(Array {
         name: Name::from_slice(alloc, bytes_at(text, array.name))?,
+        flat: true,
+        rows: 1,
         cols: cols as u32,
+        first: 0,
         states,
         steps,
     })
 }
 
-// The plans of the states.
+// The plans of the states, each of one cell.
 fn plan_states(alloc: Global, text: &[u8], states: &[StateDecl]) -> Result<Items<State>, CheckFault>
-    ensures { Gives (λ s. s) result (all_some (map (state_planned text.now) states.now)) }
+    requires { length states.now ≤ 16 }
+    ensures { Gives (λ s. s) result (states_planned text.now 0 states.now) }
 {
     let mut planned = Items::new(alloc);
-    for state in states {
-        planned.push(plan_state(alloc, text, state)?)?;
+    for (at, state) in states.iter().enumerate() {
+        planned.push(plan_state(alloc, text, at as u32, state)?)?;
     }
     Ok(planned)
 }
 
 // The plan of a state, whose initial value names none.
-fn plan_state(alloc: Global, text: &[u8], state: &StateDecl) -> Result<State, CheckFault>
-    ensures { Gives (λ s. s) result (state_planned text.now state.now) }
+fn plan_state(alloc: Global, text: &[u8], at: u32, state: &StateDecl) -> Result<State, CheckFault>
+    ensures { Gives (λ s. s) result (state_planned text.now at state.now) }
 {
     let start = plan_sum(alloc, text, &[], &[], &state.start)?;
     Ok(State {
         name: Name::from_slice(alloc, bytes_at(text, state.name))?,
+        plain: true,
+        at,
+        cells: 1,
         start,
     })
 }

@@ -15,7 +15,7 @@ use sqlite_items::Items;
 use std::alloc::Global;
 
 /// The plans of an array's entries, which come from the one array there is. Refused exactly where one has none.
-pub fn plan_entries(
+pub(crate) fn plan_entries(
     alloc: Global,
     text: &[u8],
     array: &ArrayDecl,
@@ -59,6 +59,7 @@ fn plan_entry(
         name: Name::from_slice(alloc, bytes_at(text, entry.name))?,
         owner: 0,
         source: 0,
+        down: 0,
         across,
         edge,
         values: values as u8,
@@ -67,7 +68,7 @@ fn plan_entry(
 
 /// How many values a message has: one where the text doesn't say it. Refused exactly where it says a number that isn't
 /// from 1 to 8.
-pub fn plan_count(values: Option<Num>) -> Result<u64, CheckFault>
+pub(crate) fn plan_count(values: Option<Num>) -> Result<u64, CheckFault>
     ensures exact { Gives (λ n. n) result (count_planned values) }
     ensures few { IfOk result (λ n. n ≤ 8) }
 {

@@ -1,22 +1,22 @@
 //! The plan of an expression.
 
 ghost use Rattle.std.specs.Prelude.{◌≡◌, ◌^◌, ◌<◌, length, map};
-ghost use Rattle.chare_checker.specs.Expressions.{atom_planned, factor_planned, literal, named, product_planned, sum_planned, term_planned, unary_planned};
+ghost use Rattle.chare_checker.specs.Expressions.{add_op, mul_op, atom_planned, factor_planned, literal, named, product_planned, sum_planned, term_planned, unary_planned};
 ghost use Rattle.chare_checker.specs.Names.{param_named, state_named};
 ghost use Rattle.chare_checker.specs.Options.{Gives, all_some};
 
 use crate::fault::CheckFault;
 use crate::names::{param_named, state_named};
-use chare_base::expression::{Expr, Factor, Term};
+use chare_base::expression::{AddOp, Expr, Factor, MulOp, Term};
 use chare_syntax::token::Span;
-use chare_syntax::tree::{Atom, Product, ProductTerm, StateDecl, Sum, SumTerm, Unary};
+use chare_syntax::tree::{self, Atom, Product, ProductTerm, StateDecl, Sum, SumTerm, Unary};
 use sqlite_items::{Boxed, Items};
 use std::alloc::Global;
 
 /// The plan of a sum, whose names are those of the given parameters and states. Refused exactly where a name isn't
 /// one of them.
 #[cycle(expressions)]
-pub fn plan_sum(
+pub(crate) fn plan_sum(
     alloc: Global,
     text: &[u8],
     params: &[Span],
@@ -51,9 +51,29 @@ fn plan_terms(
     let mut planned = Items::new(alloc);
     'terms: for term in terms {
         let value = plan_product(alloc, text, params, states, &term.value)?;
-        planned.push(Term { op: term.op, value })?;
+        planned.push(Term {
+            op: add_op(term.op),
+            value,
+        })?;
     }
     Ok(planned)
+}
+
+fn add_op(op: tree::AddOp) -> AddOp
+    ensures { result ≡ add_op op }
+{
+    match op {
+        tree::AddOp::Plus => AddOp::Plus,
+        tree::AddOp::Minus => AddOp::Minus,
+    }
+}
+
+fn mul_op(op: tree::MulOp) -> MulOp
+    ensures { result ≡ mul_op op }
+{
+    match op {
+        tree::MulOp::Times => MulOp::Times,
+    }
 }
 
 // The plan of a product.
@@ -94,7 +114,7 @@ fn plan_factors(
     'factors: for factor in factors {
         let value = plan_unary(alloc, text, params, states, &factor.value)?;
         planned.push(Factor {
-            op: factor.op,
+            op: mul_op(factor.op),
             value,
         })?;
     }
@@ -117,7 +137,7 @@ fn plan_unary(
     match unary {
         Unary::Minus(operand) => {
             let value = plan_unary(alloc, text, params, states, operand.get())?;
-            Ok(Expr::Negate(Boxed::new(alloc, value)?))
+            Ok(Expr::Minus(Boxed::new(alloc, value)?))
         }
         Unary::Atom(atom) => plan_atom(alloc, text, params, states, atom),
     }

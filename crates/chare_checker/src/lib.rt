@@ -6,9 +6,9 @@
 #![tactic(auto)]
 
 pub mod check;
-pub mod entries;
-pub mod expressions;
+mod entries;
+mod expressions;
 pub mod fault;
 pub mod laws;
-pub mod names;
-pub mod steps;
+mod names;
+mod steps;

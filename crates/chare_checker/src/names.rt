@@ -9,7 +9,7 @@ use chare_syntax::token::Span;
 use chare_syntax::tree::{ArrayDecl, EntryDecl, StateDecl};
 
 /// The bytes of a name, cut to the text.
-pub fn bytes_at(text: &[u8], name: Span) -> &[u8]
+pub(crate) fn bytes_at(text: &[u8], name: Span) -> &[u8]
     ensures { result.now ≡ bytes_at text.now name }
 {
     let at = name.at as usize;
@@ -26,14 +26,14 @@ pub fn bytes_at(text: &[u8], name: Span) -> &[u8]
 }
 
 /// Whether two names are spelled alike.
-pub fn same_name(text: &[u8], a: Span, b: Span) -> bool
+pub(crate) fn same_name(text: &[u8], a: Span, b: Span) -> bool
     ensures { result ≡ same_name text.now a b }
 {
     bytes_at(text, a) == bytes_at(text, b)
 }
 
 /// The number of the first state of this name, if there is one.
-pub fn state_named(text: &[u8], states: &[StateDecl], name: Span) -> Option<usize>
+pub(crate) fn state_named(text: &[u8], states: &[StateDecl], name: Span) -> Option<usize>
     ensures exact { result ≡ state_named text.now states.now name }
     ensures within { IfSome result (λ number. number < length states.now) }
 {
@@ -43,7 +43,7 @@ pub fn state_named(text: &[u8], states: &[StateDecl], name: Span) -> Option<usiz
 }
 
 /// The number of the first entry of this name, if there is one.
-pub fn entry_named(text: &[u8], entries: &[EntryDecl], name: Span) -> Option<usize>
+pub(crate) fn entry_named(text: &[u8], entries: &[EntryDecl], name: Span) -> Option<usize>
     ensures exact { result ≡ entry_named text.now entries.now name }
     ensures within { IfSome result (λ number. number < length entries.now) }
 {
@@ -53,7 +53,7 @@ pub fn entry_named(text: &[u8], entries: &[EntryDecl], name: Span) -> Option<usi
 }
 
 /// The number of the first parameter of this name, if there is one.
-pub fn param_named(text: &[u8], params: &[Span], name: Span) -> Option<usize>
+pub(crate) fn param_named(text: &[u8], params: &[Span], name: Span) -> Option<usize>
     ensures exact { result ≡ param_named text.now params.now name }
     ensures within { IfSome result (λ number. number < length params.now) }
 {
@@ -63,7 +63,7 @@ pub fn param_named(text: &[u8], params: &[Span], name: Span) -> Option<usize>
 }
 
 /// Whether parameters are as many as a message has values, short enough, and have names of their own.
-pub fn params_hold(text: &[u8], array: &ArrayDecl, count: usize, params: &[Span]) -> bool
+pub(crate) fn params_hold(text: &[u8], array: &ArrayDecl, count: usize, params: &[Span]) -> bool
     ensures { result ≡ params_hold text.now array.now count params.now }
 {
     params.len() == count

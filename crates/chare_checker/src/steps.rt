@@ -20,7 +20,11 @@ use sqlite_items::Items;
 use std::alloc::Global;
 
 /// The plans of an array's steps. Refused exactly where one has none.
-pub fn plan_steps(alloc: Global, text: &[u8], array: &ArrayDecl) -> Result<Items<Step>, CheckFault>
+pub(crate) fn plan_steps(
+    alloc: Global,
+    text: &[u8],
+    array: &ArrayDecl,
+) -> Result<Items<Step>, CheckFault>
     requires states { length array.now.states < 2 ^ 16 }
     requires entries { length array.now.entries < 2 ^ 16 }
     ensures { Gives (λ s. s) result (all_some (map (step_planned text.now array.now) array.now.steps)) }

@@ -1,10 +1,10 @@
 -- Readers of one token.
 use Rattle.std.proofs.Common.{◌≡◌, ℕ, zero, suc, Bool, true, false, cond, ◌⊎◌, inl, inr, List, [], ◌∷◌, ◌++◌, length, length-append, arith, refl, ap, sym, ◌∙◌, Option, Some, None, Ok, Err, subst}
 use Rattle.std.proofs.lemmas.Bool.{eqb-true, eq-eqb}
-use Rattle.chare_base.specs.declared.expression.AddOp.{AddOp}
-use Rattle.chare_base.specs.declared.expression.AddOp.TheVariants as adds
-use Rattle.chare_base.specs.declared.expression.MulOp.{MulOp}
-use Rattle.chare_base.specs.declared.expression.MulOp.TheVariants as muls
+use Rattle.chare_syntax.specs.declared.tree.AddOp.{AddOp}
+use Rattle.chare_syntax.specs.declared.tree.AddOp.TheVariants as adds
+use Rattle.chare_syntax.specs.declared.tree.MulOp.{MulOp}
+use Rattle.chare_syntax.specs.declared.tree.MulOp.TheVariants as muls
 use Rattle.chare_syntax.specs.declared.token.Kind.{Kind}
 use Rattle.chare_syntax.specs.declared.token.Kind.TheVariants as kinds
 use Rattle.chare_syntax.specs.declared.token.Mark.{Mark}

@@ -1,10 +1,10 @@
 -- Expressions at each level keep to the laws.
 use Rattle.std.proofs.Common.{◌≡◌, ℕ, suc, ◌≤◌, max, Bool, true, false, ◌||◌, cond, inl, inr, List, [], ◌∷◌, ◌++◌, map, refl, ap, sym, ◌∙◌, arith, Some, None}
 use Rattle.std.specs.List.{AllByRecursion, flat_map}
-use Rattle.chare_base.specs.declared.expression.AddOp.{AddOp}
-use Rattle.chare_base.specs.declared.expression.AddOp.TheVariants as adds
-use Rattle.chare_base.specs.declared.expression.MulOp.{MulOp}
-use Rattle.chare_base.specs.declared.expression.MulOp.TheVariants as muls
+use Rattle.chare_syntax.specs.declared.tree.AddOp.{AddOp}
+use Rattle.chare_syntax.specs.declared.tree.AddOp.TheVariants as adds
+use Rattle.chare_syntax.specs.declared.tree.MulOp.{MulOp}
+use Rattle.chare_syntax.specs.declared.tree.MulOp.TheVariants as muls
 use Rattle.chare_syntax.specs.declared.token.Kind.{Kind}
 use Rattle.chare_syntax.specs.declared.token.Kind.TheVariants as kinds
 use Rattle.chare_syntax.specs.declared.token.Mark.TheVariants as marks

@@ -1,9 +1,9 @@
 -- Reading tokens from the left: the shape of the reader, of which its proof speaks.
 use Rattle.std.specs.Prelude.{ℕ, zero, suc, Bool, true, false, if◌then◌else◌, ◌==◌, ◌||◌, List, [], ◌∷◌, length, Option, Some, None, Result, Ok, Err}
-use Rattle.chare_base.specs.declared.expression.AddOp.{AddOp}
-use Rattle.chare_base.specs.declared.expression.AddOp.TheVariants as adds
-use Rattle.chare_base.specs.declared.expression.MulOp.{MulOp}
-use Rattle.chare_base.specs.declared.expression.MulOp.TheVariants as muls
+use Rattle.chare_syntax.specs.declared.tree.AddOp.{AddOp}
+use Rattle.chare_syntax.specs.declared.tree.AddOp.TheVariants as adds
+use Rattle.chare_syntax.specs.declared.tree.MulOp.{MulOp}
+use Rattle.chare_syntax.specs.declared.tree.MulOp.TheVariants as muls
 use Rattle.chare_syntax.specs.declared.token.Kind.{Kind}
 use Rattle.chare_syntax.specs.declared.token.Kind.TheVariants as kinds
 use Rattle.chare_syntax.specs.declared.token.Mark.{Mark}

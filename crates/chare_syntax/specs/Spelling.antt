@@ -1,10 +1,10 @@
 -- The tokens that a tree is spelled by: the grammar of the job language.
 use Rattle.std.specs.Prelude.{Bool, true, false, List, [], ◌∷◌, ◌++◌, Option, Some, None}
 use Rattle.std.specs.List.{flat_map}
-use Rattle.chare_base.specs.declared.expression.AddOp.{AddOp}
-use Rattle.chare_base.specs.declared.expression.AddOp.TheVariants as adds
-use Rattle.chare_base.specs.declared.expression.MulOp.{MulOp}
-use Rattle.chare_base.specs.declared.expression.MulOp.TheVariants as muls
+use Rattle.chare_syntax.specs.declared.tree.AddOp.{AddOp}
+use Rattle.chare_syntax.specs.declared.tree.AddOp.TheVariants as adds
+use Rattle.chare_syntax.specs.declared.tree.MulOp.{MulOp}
+use Rattle.chare_syntax.specs.declared.tree.MulOp.TheVariants as muls
 use Rattle.chare_syntax.specs.declared.token.Kind.{Kind}
 use Rattle.chare_syntax.specs.declared.token.Kind.TheVariants.{Name, Number, Mark}
 use Rattle.chare_syntax.specs.declared.token.Mark.{Mark as AnyMark}

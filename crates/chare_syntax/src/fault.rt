@@ -3,7 +3,7 @@
 ghost use Rattle.std.specs.Prelude.{◌≡◌};
 ghost use Rattle.chare_syntax.specs.declared.fault.ParseFault.TheVariants as faults;
 
-use chare_base::memory::Memory;
+use chare_bytes::memory::Memory;
 use std::alloc::{AllocError, AllocFailed};
 use thiserror::Error;
 

@@ -6,8 +6,7 @@ ghost use Rattle.chare_syntax.specs.Reading.{goes, is_mark, is_name, is_stmt, ad
 
 use crate::fault::ParseFault;
 use crate::token::{Kind, Mark, Num, Span, Token};
-use crate::tree::Atom;
-use chare_base::expression::{AddOp, MulOp};
+use crate::tree::{AddOp, Atom, MulOp};
 
 /// Whether a kind is this mark.
 pub fn is_mark(kind: Kind, mark: Mark) -> bool

@@ -6,7 +6,7 @@ ghost use Rattle.chare_syntax.specs.Tokens.{tokens, EndsOnce, piece_at, piece_to
 
 use crate::token::{Kind, Mark, Num, Span, Token};
 use crate::words::reserved;
-use chare_base::memory::Memory;
+use chare_bytes::memory::Memory;
 use std::alloc::Global;
 
 /// The greatest number that a text may write.

@@ -8,7 +8,7 @@ use crate::fault::ParseFault;
 use crate::lexer::{tokens, tokens_end_once};
 use crate::reader::read_job;
 use crate::tree::Ast;
-use chare_base::bytes::Bytes;
+use chare_bytes::bytes::Bytes;
 use std::alloc::Global;
 
 /// How many bytes a job's text may have.

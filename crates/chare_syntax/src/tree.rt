@@ -1,8 +1,7 @@
 //! The tree of a job's text: a struct or an enum for each rule of the grammar.
 
 use crate::token::{Num, Span};
-use chare_base::bytes::Bytes;
-use chare_base::expression::{AddOp, MulOp};
+use chare_bytes::bytes::Bytes;
 use sqlite_items::{Boxed, Items};
 
 /// A text and its tree. Places in the tree are places in the text.
@@ -106,6 +105,19 @@ pub struct SendDecl {
 pub enum AnswerDecl {
     /// `answer sum ARRAY . STATE`.
     Sum { array: Span, state: Span },
+}
+
+/// An operator between the products of a sum.
+#[derive(Clone, Copy, Debug, PartialEq, Eq)]
+pub enum AddOp {
+    Plus,
+    Minus,
+}
+
+/// An operator between the unaries of a product.
+#[derive(Clone, Copy, Debug, PartialEq, Eq)]
+pub enum MulOp {
+    Times,
 }
 
 /// Products joined by `+` and `-`, read from the left.

@@ -1,6 +1,5 @@
-use Rattle.std.proofs.Common.{◌∙◌, ap, sym, map}
-use Rattle.chare_checker.specs.Options.{all_some}
-use Rattle.chare_checker.specs.Planned.{bounded, state_planned}
+use Rattle.std.proofs.Common.{◌∙◌, ap, sym}
+use Rattle.chare_checker.specs.Planned.{bounded, states_planned}
 use Rattle.chare_checker.proofs.Sealing.{array_is}
 use Rattle.chare_checker.proofs.check.plan_array.Goals as goal
 
@@ -10,6 +9,6 @@ returns c =
     c.in_ok-cols.ensures.exact
     (ap (bounded 1 16) (sym c.len.ensures) ∙ c.in_ok-bounded.ensures.exact)
     (ap (bounded 0 16) (sym c.len-2.ensures) ∙ c.in_ok-bounded-2.ensures.exact)
-    (ap (λ xs. all_some (map (state_planned c.args.text.now) xs)) (sym c.as_slice.ensures) ∙ c.in_ok-states.ensures)
+    (ap (states_planned c.args.text.now 0) (sym c.as_slice.ensures) ∙ c.in_ok-states.ensures)
     c.in_ok-steps.ensures
     (c.in_ok-from_slice.ensures ∙ c.bytes_at.ensures)
