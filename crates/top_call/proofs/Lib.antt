@@ -1,0 +1,4 @@
+pub mod Lengths
+pub mod OneWord
+pub mod Plans
+pub mod Tops

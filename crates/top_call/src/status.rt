@@ -1,0 +1,50 @@
+//! How a call of the program ends.
+
+ghost use Rattle.std.specs.Prelude.{◌≡◌};
+ghost use Rattle.std.specs.Process.{exit_status};
+ghost use Rattle.top_call.specs.Due.{code_of};
+
+use std::process::ExitCode;
+
+/// How a call of the program ends. Each status but want of memory has its text.
+#[derive(Clone, Copy, Debug, PartialEq, Eq)]
+pub enum Status {
+    /// The command succeeded; its text was written.
+    Done,
+    /// The words are no command; text `usage`.
+    Usage,
+    /// The input is no job; text `job`.
+    Job,
+    /// The input has more than 262,144 bytes; text `long`.
+    Long,
+    /// The source failed; text `read`.
+    Read,
+    /// The sink failed; a part of the text due was written.
+    Write,
+    /// Memory ran out; nothing was written.
+    Memory,
+}
+
+impl Status {
+    /// The status that the process ends with.
+    pub fn code(self) -> u8
+        ensures { result ≡ code_of self }
+    {
+        match self {
+            Status::Done => 0,
+            Status::Usage => 2,
+            Status::Job => 3,
+            Status::Long => 5,
+            Status::Read => 6,
+            Status::Write => 7,
+            Status::Memory => 10,
+        }
+    }
+
+    /// The status as `main` returns it.
+    pub fn exit_code(self) -> ExitCode
+        ensures { exit_status result ≡ code_of self }
+    {
+        ExitCode::from(self.code())
+    }
+}
