@@ -10,5 +10,3 @@ pub mod compare;
 pub mod laws;
 pub mod pack;
 mod put;
-#[cfg(test)]
-mod tests;

@@ -13,6 +13,4 @@ mod names;
 mod parts;
 pub mod report;
 mod slips;
-#[cfg(test)]
-mod tests;
 mod totals;

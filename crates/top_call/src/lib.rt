@@ -10,7 +10,5 @@ pub mod drill;
 pub mod laws;
 pub mod process;
 pub mod status;
-#[cfg(test)]
-mod tests;
 pub mod top;
 pub mod words;

@@ -1,9 +1,0 @@
-use Rattle.std.proofs.Common.{◌≡◌, ◌^◌, ◌-◌, ◌<◌, min, drop}
-use Rattle.job_grammar.specs.Tokens.{number_from}
-use Rattle.job_grammar.proofs.lexer.number_of.Given as goal
-
-abbrev pub invariant-digits : goal.invariant-digits
-invariant-digits l = record {
-  told : min (number_from l.value (drop l.digit-index l.digits)) (2 ^ 64 - 1) ≡ min (number_from 0 l.digits) (2 ^ 64 - 1);
-  fits : l.value < 2 ^ 64;
-}
