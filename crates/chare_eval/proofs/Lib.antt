@@ -15,4 +15,3 @@ pub mod Steps
 pub mod Strikes
 pub mod Totals
 pub mod Turns
-pub mod Variables

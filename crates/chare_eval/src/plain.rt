@@ -10,12 +10,11 @@ ghost use Rattle.chare_eval.specs.Opening.{opening};
 ghost use Rattle.chare_eval.specs.Stage.{parts_run, step_of};
 ghost use Rattle.chare_eval.specs.Tables.{box_of, elements_run, round_runs, rounds_run, steps_run, tables_of};
 
-use crate::block::run_in;
+use crate::block::run_part;
 use crate::effects::Effects;
 use crate::laws::fold_is_shaped;
 use crate::start::start_cells;
 use crate::tables::Mail;
-use crate::value::Scene;
 use chare_base::cells::{Cells, CellsList};
 use chare_base::memory::Memory;
 use chare_base::plan::{Array, ElementId, Part, Place, Plan};
@@ -34,13 +33,7 @@ pub fn plain_run(alloc: Global, plan: &Plan) -> Result<CellsList, Memory>
     let mut all = start_all(alloc, plan)?;
     let mut mail = Mail::new(alloc, plan)?;
     let mut effects = Effects::new(alloc);
-    run_rounds(
-        plan,
-        all.as_mut_slice(),
-        &mut mail,
-        &mut Scene::new(),
-        &mut effects,
-    )?;
+    run_rounds(plan, all.as_mut_slice(), &mut mail, &mut effects)?;
     Ok(CellsList::from_vec(all))
 }
 
@@ -63,14 +56,13 @@ fn run_rounds(
     plan: &Plan,
     all: &mut [Cells],
     mail: &mut Mail,
-    scene: &mut Scene,
     effects: &mut Effects,
 ) -> Result<(), Memory>
     requires { length all.old ≡ elements plan.now }
     ensures { OnOk result (record { states = all.new; tables = tables_of mail.new } ≡ rounds_run plan.now plan.now.iterations (record { states = all.old; tables = tables_of mail.old })) }
 {
     for k in 0..plan.iterations {
-        run_round(plan, k, all, mail, scene, effects)?;
+        run_round(plan, k, all, mail, effects)?;
     }
     Ok(())
 }
@@ -81,14 +73,13 @@ fn run_round(
     k: u64,
     all: &mut [Cells],
     mail: &mut Mail,
-    scene: &mut Scene,
     effects: &mut Effects,
 ) -> Result<(), Memory>
     requires { length all.old ≡ elements plan.now }
     ensures { OnOk result (record { states = all.new; tables = tables_of mail.new } ≡ round_runs plan.now k (record { states = all.old; tables = tables_of mail.old })) }
 {
     mail.begin(plan)?;
-    run_steps(plan, k, all, mail, scene, effects)
+    run_steps(plan, k, all, mail, effects)
 }
 
 // Runs all steps of an iteration.
@@ -98,14 +89,13 @@ fn run_steps(
     k: u64,
     all: &mut [Cells],
     mail: &mut Mail,
-    scene: &mut Scene,
     effects: &mut Effects,
 ) -> Result<(), Memory>
     requires { length all.old ≡ elements plan.now }
     ensures { OnOk result (record { states = all.new; tables = tables_of mail.new } ≡ steps_run plan.now k (steps_in_round plan.now) (record { states = all.old; tables = tables_of mail.old })) }
 {
     for s in 0..plan.steps_in_round() {
-        run_elements(plan, s, k, all, mail, scene, effects)?;
+        run_elements(plan, s, k, all, mail, effects)?;
     }
     Ok(())
 }
@@ -118,7 +108,6 @@ fn run_elements(
     k: u64,
     all: &mut [Cells],
     mail: &mut Mail,
-    scene: &mut Scene,
     effects: &mut Effects,
 ) -> Result<(), Memory>
     requires { length all.old ≡ elements plan.now }
@@ -132,7 +121,6 @@ fn run_elements(
             k,
             mail,
             &mut all[e as usize],
-            scene,
             effects,
         )?;
         mail.deliver(effects.as_slice())?;
@@ -148,7 +136,6 @@ fn run_step(
     k: u64,
     mail: &Mail,
     cells: &mut Cells,
-    scene: &mut Scene,
     effects: &mut Effects,
 ) -> Result<(), Memory>
     requires { e.0 < elements plan.now }
@@ -167,7 +154,6 @@ fn run_step(
         parts_of(array, s),
         mail,
         cells,
-        scene,
         effects,
     )
 }
@@ -183,7 +169,6 @@ fn parts_of(array: &Array, s: u8) -> &[Part]
 }
 
 // Runs parts in order, each with what it needs.
-#[tactic(auto, unfolding(crate::specs::Block::scene_of))]
 fn run_parts(
     plan: &Plan,
     e: ElementId,
@@ -194,7 +179,6 @@ fn run_parts(
     parts: &[Part],
     mail: &Mail,
     cells: &mut Cells,
-    scene: &mut Scene,
     effects: &mut Effects,
 ) -> Result<(), Memory>
     requires element { e.0 < elements plan.now }
@@ -203,9 +187,9 @@ fn run_parts(
     ensures { OnOk result (record { cells = cells.new; sent = effects.new } ≡ parts_run plan.now e.0 s k (box_of plan.now (tables_of mail.now) e.0) parts.now (record { cells = cells.old; sent = effects.old })) }
 {
     for part in parts {
-        mail.give(plan, e, place.index, part.need, &mut scene.values);
+        let payload = mail.given(plan, e, place.index, part.need);
         let block = part.block.as_slice();
-        run_in(plan, e, place, s, k, cols, block, scene, cells, effects)?;
+        run_part(plan, e, place, s, k, cols, block, &payload, cells, effects)?;
     }
     Ok(())
 }
