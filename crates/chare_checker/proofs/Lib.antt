@@ -1,6 +1,6 @@
-pub mod Gathered
-pub mod Numbered
-pub mod Operands
-pub mod Sealing
+pub mod Checks
+pub mod Declared
+pub mod FirstParts
+pub mod Naming
+pub mod Sooner
 pub mod Texts
-pub mod Whens

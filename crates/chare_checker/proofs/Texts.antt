@@ -1,16 +1,21 @@
--- A text has one plan at most.
-use Rattle.std.proofs.Common.{◌≡◌, ap, sym, ◌∙◌, Option, Some}
-use Rattle.chare_base.specs.Elements.{Fields, fields_of}
+-- Plans and refusals of one text.
+use Rattle.std.proofs.Common.{◌≡◌, ℕ, List, ap, sym, ◌∙◌, Some, inl, inr}
 use Rattle.chare_syntax.proofs.Texts.{one_tree}
-use Rattle.chare_checker.specs.Planned.{planned}
-use Rattle.chare_checker.specs.Accepted.{OnePlan}
-
-abbrev there : Fields → Option Fields
-there x = Some x
-
-some_same : (x y : Fields) → there x ≡ there y → x ≡ y
-some_same x y e = cc
+use Rattle.chare_checker.specs.declared.fault.CheckFault.{CheckFault}
+use Rattle.chare_checker.specs.Checked.{first_fault, plan_of}
+use Rattle.chare_checker.specs.Faults.{Found, nothing}
+use Rattle.chare_checker.specs.Accepted.{Broken, HasNoPlan, OnePlan, RefusedHasNone}
 
 pub one_plan : OnePlan
-one_plan text p q a b =
-    some_same (fields_of p) (fields_of q) (sym a.plans ∙ ap (planned text) (one_tree text a.job b.job a.reads b.reads) ∙ b.plans)
+one_plan text p q a b = a.plans ∙ ap (plan_of text) (one_tree text a.job b.job a.reads b.reads) ∙ sym b.plans
+
+no_fault : (f : CheckFault) (o : Found) → o ≡ nothing → o ≡ Some f → ⊥
+no_fault f o a b = absurd (let e : nothing ≡ Some f = sym a ∙ b in cc)
+
+broken_has_none : (text : List ℕ) (at code : ℕ) → Broken text at code → HasNoPlan text
+broken_has_none text at code b p is =
+    no_fault b.fault (first_fault text b.job) (ap (first_fault text) (one_tree text b.job is.job b.reads is.reads) ∙ is.sound) b.first
+
+pub refused_has_none : RefusedHasNone
+refused_has_none text at code (inl n) p is = n.none is.job is.reads
+refused_has_none text at code (inr b) p is = broken_has_none text at code b p is

@@ -1,98 +1,141 @@
--- The plan of an expression.
-use Rattle.std.specs.Prelude.{ℕ, ◌^◌, pos, if◌then◌else◌, nat_lt, List, [], ◌∷◌, Option, Some, None}
-use Rattle.chare_base.specs.declared.expression.AddOp.{AddOp}
-use Rattle.chare_base.specs.declared.expression.AddOp.TheVariants as adds
-use Rattle.chare_base.specs.declared.expression.MulOp.{MulOp}
-use Rattle.chare_base.specs.declared.expression.MulOp.TheVariants as muls
-use Rattle.chare_base.specs.declared.expression.Expr.{Expr}
-use Rattle.chare_base.specs.declared.expression.Expr.TheVariants as exprs
-use Rattle.chare_base.specs.declared.expression.Factor.{Factor, roll-Factor}
-use Rattle.chare_base.specs.declared.expression.Term.{Term, roll-Term}
+-- What the names and words of an expression note.
+use Rattle.std.specs.Prelude.{ℕ, Bool, true, false, not, ◌||◌, is_some, List, Option, Some}
 use Rattle.chare_syntax.specs.declared.token.Span.{Span}
-use Rattle.chare_syntax.specs.declared.tree.AddOp as tree_add
-use Rattle.chare_syntax.specs.declared.tree.AddOp.TheVariants as tree_adds
-use Rattle.chare_syntax.specs.declared.tree.MulOp as tree_mul
-use Rattle.chare_syntax.specs.declared.tree.MulOp.TheVariants as tree_muls
-use Rattle.chare_syntax.specs.declared.tree.StateDecl.{StateDecl}
+use Rattle.chare_syntax.specs.declared.tree.Here.{Here}
+use Rattle.chare_syntax.specs.declared.tree.Here.TheVariants as heres
+use Rattle.chare_syntax.specs.declared.tree.Conj.{Conj}
+use Rattle.chare_syntax.specs.declared.tree.Expr.{Expr}
 use Rattle.chare_syntax.specs.declared.tree.Product.{Product}
 use Rattle.chare_syntax.specs.declared.tree.ProductTerm.{ProductTerm}
 use Rattle.chare_syntax.specs.declared.tree.Sum.{Sum}
 use Rattle.chare_syntax.specs.declared.tree.SumTerm.{SumTerm}
-use Rattle.chare_syntax.specs.declared.tree.Unary.{Unary}
 use Rattle.chare_syntax.specs.declared.tree.Atom.{Atom}
-use Rattle.chare_syntax.specs.declared.tree.Atom.TheOpen.{Atom-F, Product-F, ProductTerm-F, Sum-F, SumTerm-F, Unary-F}
-use Rattle.chare_syntax.specs.declared.tree.Atom.TheFolds.{fold-Atom, fold-Product, fold-ProductTerm, fold-Sum, fold-SumTerm, fold-Unary}
-use Rattle.chare_checker.specs.Names.{param_named, state_named}
-use Rattle.chare_checker.specs.Options.{◌>>=◌, all_some}
+use Rattle.chare_syntax.specs.declared.tree.Test.{Test}
+use Rattle.chare_syntax.specs.declared.tree.Unary.{Unary}
+use Rattle.chare_syntax.specs.declared.tree.Atom.TheOpen.{Atom-F, Test-F, Unary-F, Conj-F, Expr-F, Product-F, ProductTerm-F, Sum-F, SumTerm-F}
+use Rattle.chare_syntax.specs.declared.tree.Atom.TheFolds.{fold-Atom, fold-Test, fold-Unary, fold-Conj, fold-Expr, fold-Product, fold-ProductTerm, fold-Sum, fold-SumTerm}
+use Rattle.chare_checker.specs.declared.walk.Site.{Site}
+use Rattle.chare_checker.specs.declared.walk.Site.TheVariants as sites
+use Rattle.chare_checker.specs.declared.fault.CheckFault.TheVariants as faults
+use Rattle.chare_checker.specs.declared.names.Meaning.{Meaning}
+use Rattle.chare_checker.specs.declared.names.Meaning.TheVariants as meanings
+use Rattle.chare_checker.specs.declared.notes.StateUse.{StateUse}
+use Rattle.chare_checker.specs.Faults.{Found, fault_if, name_fault}
+use Rattle.chare_checker.specs.Names.{Known, bytes_at, local_named, lookup}
+use Rattle.chare_checker.specs.Notes.{Walk, in_order, noted, use_noted}
 
-abbrev pub Planned : Type 0
-Planned = Option Expr
+-- ---- names
 
--- a number of 63 bits
-abbrev pub literal : ℕ → Planned
-literal n = if nat_lt n (2 ^ 63) then Some (exprs.Number (pos n)) else None
+-- a parameter's name, or a loop's around
+abbrev pub is_local : List ℕ → List Span → List Span → Span → Bool
+is_local text params loops name = is_some (local_named text params name) || is_some (local_named text loops name)
 
--- operators of a text and of a plan
-abbrev pub add_op : tree_add.AddOp → AddOp
-add_op tree_adds.Plus = adds.Plus
-add_op tree_adds.Minus = adds.Minus
+-- a state without a size has no index, one with a size has one
+abbrev pub misindexed : Bool → Bool → Bool
+misindexed true indexed = indexed
+misindexed false indexed = not indexed
 
-abbrev pub mul_op : tree_mul.MulOp → MulOp
-mul_op tree_muls.Times = muls.Times
+-- the use of a state's name in a part
+abbrev pub state_use : ℕ → ℕ → ℕ → Span → Bool → StateUse
+state_use state declared part name written = record { state = state; declared = declared; part = part; at = name.at; written = written }
 
--- one operand alone is itself
-abbrev pub sum_of : Expr → List Term → Expr
-sum_of first [] = first
-sum_of first (t ∷ more) = exprs.Sum first (t ∷ more)
+-- a state is read in a part of a step, and never in an initial value
+abbrev pub state_read : Site → ℕ → ℕ → Bool → Span → Bool → Walk
+state_read (sites.Part part) number declared plain name indexed n =
+    use_noted (state_use number declared part name false) (noted (fault_if (misindexed plain indexed) (faults.Kind name.at)) n)
+state_read (sites.Start sized) number declared plain name indexed n = noted (Some (faults.Kind name.at)) n
 
-abbrev pub product_of : Expr → List Factor → Expr
-product_of first [] = first
-product_of first (f ∷ more) = exprs.Product first (f ∷ more)
+-- a name that isn't a state's, local or not: a local name has no index
+abbrev pub local_fault : Bool → Span → Bool → Found
+local_fault true name indexed = fault_if indexed (faults.Kind name.at)
+local_fault false name indexed = Some (faults.Unknown name.at)
 
--- what a name stands for: the value of a parameter, or the cell of a state
-abbrev pub named : Option ℕ → Option ℕ → Planned
-named (Some value) state = Some (exprs.Mail value)
-named None (Some cell) = Some (exprs.Cell cell)
-named None None = None
+-- a name with this meaning in the array's table, local or not, with an index or without one
+abbrev pub value_named : Site → Option Meaning → Bool → Span → Bool → Walk
+value_named site (Some (meanings.State number declared plain at cells)) local name indexed n = state_read site number declared plain name indexed n
+value_named site _ local name indexed n = noted (local_fault local name indexed) n
 
--- names are those of the given parameters and states
-module _ (text : List ℕ) (params : List Span) (states : List StateDecl) where
-  abbrev pub atom_step : Atom-F Planned Planned Planned (Option Factor) Planned (Option Term) → Planned
-  atom_step (Atom-F.Number n) = literal n.value
-  atom_step (Atom-F.Name span) = named (param_named text params span) (state_named text states span)
-  atom_step Atom-F.Index = Some exprs.Index
-  atom_step (Atom-F.Group e) = e
+-- ---- words
 
-  abbrev pub unary_step : Unary-F Planned Planned Planned (Option Factor) Planned (Option Term) → Planned
-  unary_step (Unary-F.Minus e) = e >>= λ operand. Some (exprs.Minus operand)
-  unary_step (Unary-F.Atom a) = a
+-- Iterations are counted in steps alone, and cells in the initial value of a state with a size.
+abbrev pub misplaced : Site → Here → Bool
+misplaced (sites.Part part) heres.Cell = true
+misplaced (sites.Start sized) heres.Cell = not sized
+misplaced (sites.Start sized) heres.Iter = true
+misplaced _ _ = false
 
-  abbrev pub product_step : Product-F Planned Planned Planned (Option Factor) Planned (Option Term) → Planned
-  product_step p = p.first >>= λ first. all_some p.others >>= λ others. Some (product_of first others)
+-- ---- expressions; names are those of an array's table, of a part's parameters and of the loops around
 
-  abbrev pub factor_step : ProductTerm-F Planned Planned Planned (Option Factor) Planned (Option Term) → Option Factor
-  factor_step f = f.value >>= λ value. Some (roll-Factor (record { op = mul_op f.op; value = value }))
+unfoldable pub name_walked : List ℕ → List Known → Site → List Span → List Span → Span → Bool → Walk
+name_walked text table site params loops name indexed n =
+    value_named site (lookup table (bytes_at text name)) (is_local text params loops name) name indexed (noted (name_fault name) n)
 
-  abbrev pub sum_step : Sum-F Planned Planned Planned (Option Factor) Planned (Option Term) → Planned
-  sum_step s = s.first >>= λ first. all_some s.others >>= λ others. Some (sum_of first others)
+unfoldable pub here_walked : Site → ℕ → Here → Walk
+here_walked site at word n = noted (fault_if (misplaced site word) (faults.Kind at)) n
 
-  abbrev pub term_step : SumTerm-F Planned Planned Planned (Option Factor) Planned (Option Term) → Option Term
-  term_step t = t.value >>= λ value. Some (roll-Term (record { op = add_op t.op; value = value }))
+module _ (text : List ℕ) (table : List Known) (site : Site) (params loops : List Span) where
+  abbrev pub atom_step : Atom-F Walk Walk Walk Walk Walk Walk Walk Walk Walk → Walk
+  atom_step (Atom-F.Number number) n = n
+  atom_step (Atom-F.Name name) n = name_walked text table site params loops name false n
+  atom_step (Atom-F.Cell name index) n = index (name_walked text table site params loops name true n)
+  atom_step (Atom-F.Here at word) n = here_walked site at word n
+  atom_step (Atom-F.Choice at choice first second) n = second (first n)
+  atom_step (Atom-F.Group at inner) n = inner n
 
-  abbrev pub atom_planned : Atom → Planned
-  atom_planned = fold-Atom Planned Planned Planned (Option Factor) Planned (Option Term) atom_step unary_step product_step factor_step sum_step term_step
+  abbrev pub test_step : Test-F Walk Walk Walk Walk Walk Walk Walk Walk Walk → Walk
+  test_step (Test-F.Not at operand) n = operand n
+  test_step (Test-F.Alone sum) n = sum n
+  test_step (Test-F.Compare left op right) n = right (left n)
 
-  abbrev pub unary_planned : Unary → Planned
-  unary_planned = fold-Unary Planned Planned Planned (Option Factor) Planned (Option Term) atom_step unary_step product_step factor_step sum_step term_step
+  abbrev pub unary_step : Unary-F Walk Walk Walk Walk Walk Walk Walk Walk Walk → Walk
+  unary_step (Unary-F.Minus at operand) n = operand n
+  unary_step (Unary-F.Atom a) n = a n
 
-  abbrev pub product_planned : Product → Planned
-  product_planned = fold-Product Planned Planned Planned (Option Factor) Planned (Option Term) atom_step unary_step product_step factor_step sum_step term_step
+  abbrev pub conj_step : Conj-F Walk Walk Walk Walk Walk Walk Walk Walk Walk → Walk
+  conj_step c n = in_order c.others (c.first n)
 
-  abbrev pub factor_planned : ProductTerm → Option Factor
-  factor_planned = fold-ProductTerm Planned Planned Planned (Option Factor) Planned (Option Term) atom_step unary_step product_step factor_step sum_step term_step
+  abbrev pub expr_step : Expr-F Walk Walk Walk Walk Walk Walk Walk Walk Walk → Walk
+  expr_step e n = in_order e.others (e.first n)
 
-  abbrev pub sum_planned : Sum → Planned
-  sum_planned = fold-Sum Planned Planned Planned (Option Factor) Planned (Option Term) atom_step unary_step product_step factor_step sum_step term_step
+  abbrev pub product_step : Product-F Walk Walk Walk Walk Walk Walk Walk Walk Walk → Walk
+  product_step p n = in_order p.others (p.first n)
 
-  abbrev pub term_planned : SumTerm → Option Term
-  term_planned = fold-SumTerm Planned Planned Planned (Option Factor) Planned (Option Term) atom_step unary_step product_step factor_step sum_step term_step
+  abbrev pub product_term_step : ProductTerm-F Walk Walk Walk Walk Walk Walk Walk Walk Walk → Walk
+  product_term_step t n = t.value n
+
+  abbrev pub sum_step : Sum-F Walk Walk Walk Walk Walk Walk Walk Walk Walk → Walk
+  sum_step s n = in_order s.others (s.first n)
+
+  abbrev pub sum_term_step : SumTerm-F Walk Walk Walk Walk Walk Walk Walk Walk Walk → Walk
+  sum_term_step t n = t.value n
+
+  abbrev pub atom_walked : Atom → Walk
+  atom_walked = fold-Atom Walk Walk Walk Walk Walk Walk Walk Walk Walk atom_step test_step unary_step conj_step expr_step product_step product_term_step sum_step sum_term_step
+
+  abbrev pub test_walked : Test → Walk
+  test_walked = fold-Test Walk Walk Walk Walk Walk Walk Walk Walk Walk atom_step test_step unary_step conj_step expr_step product_step product_term_step sum_step sum_term_step
+
+  abbrev pub unary_walked : Unary → Walk
+  unary_walked = fold-Unary Walk Walk Walk Walk Walk Walk Walk Walk Walk atom_step test_step unary_step conj_step expr_step product_step product_term_step sum_step sum_term_step
+
+  abbrev pub conj_walked : Conj → Walk
+  conj_walked = fold-Conj Walk Walk Walk Walk Walk Walk Walk Walk Walk atom_step test_step unary_step conj_step expr_step product_step product_term_step sum_step sum_term_step
+
+  abbrev pub expr_walked : Expr → Walk
+  expr_walked = fold-Expr Walk Walk Walk Walk Walk Walk Walk Walk Walk atom_step test_step unary_step conj_step expr_step product_step product_term_step sum_step sum_term_step
+
+  abbrev pub product_walked : Product → Walk
+  product_walked = fold-Product Walk Walk Walk Walk Walk Walk Walk Walk Walk atom_step test_step unary_step conj_step expr_step product_step product_term_step sum_step sum_term_step
+
+  abbrev pub product_term_walked : ProductTerm → Walk
+  product_term_walked = fold-ProductTerm Walk Walk Walk Walk Walk Walk Walk Walk Walk atom_step test_step unary_step conj_step expr_step product_step product_term_step sum_step sum_term_step
+
+  abbrev pub sum_walked : Sum → Walk
+  sum_walked = fold-Sum Walk Walk Walk Walk Walk Walk Walk Walk Walk atom_step test_step unary_step conj_step expr_step product_step product_term_step sum_step sum_term_step
+
+  abbrev pub sum_term_walked : SumTerm → Walk
+  sum_term_walked = fold-SumTerm Walk Walk Walk Walk Walk Walk Walk Walk Walk atom_step test_step unary_step conj_step expr_step product_step product_term_step sum_step sum_term_step
+
+-- an expression, which other definitions see as one word
+unfoldable pub value_walked : List ℕ → List Known → Site → List Span → List Span → Expr → Walk
+value_walked text table site params loops e n = expr_walked text table site params loops e n

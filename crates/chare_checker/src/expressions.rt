@@ -1,195 +1,394 @@
-//! The plan of an expression.
+//! The walk over an expression.
 
-ghost use Rattle.std.specs.Prelude.{◌≡◌, ◌^◌, ◌<◌, length, map};
-ghost use Rattle.chare_checker.specs.Expressions.{add_op, mul_op, atom_planned, factor_planned, literal, named, product_planned, sum_planned, term_planned, unary_planned};
-ghost use Rattle.chare_checker.specs.Names.{param_named, state_named};
-ghost use Rattle.chare_checker.specs.Options.{Gives, all_some};
+ghost use Rattle.std.specs.Prelude.{◌≡◌, OnOk, map};
+ghost use Rattle.chare_checker.specs.Notes.{in_order};
+ghost use Rattle.chare_checker.specs.Expressions.{atom_walked, conj_walked, expr_walked, here_walked, local_fault, misindexed, misplaced, name_walked, product_term_walked, product_walked, state_read, state_use, sum_term_walked, sum_walked, test_walked, unary_walked, value_named, value_walked};
 
-use crate::fault::CheckFault;
-use crate::names::{param_named, state_named};
-use chare_base::expression::{AddOp, Expr, Factor, MulOp, Term};
+use crate::fault::{CheckFault, fault_if, name_fault};
+use crate::names::Meaning;
+use crate::notes::{Notes, StateUse};
+use crate::walk::{Scope, Site};
+use chare_base::memory::Memory;
 use chare_syntax::token::Span;
-use chare_syntax::tree::{self, Atom, Product, ProductTerm, StateDecl, Sum, SumTerm, Unary};
-use sqlite_items::{Boxed, Items};
-use std::alloc::Global;
+use chare_syntax::tree::{Atom, Conj, Expr, Here, Product, ProductTerm, Sum, SumTerm, Test, Unary};
 
-/// The plan of a sum, whose names are those of the given parameters and states. Refused exactly where a name isn't
-/// one of them.
-#[cycle(expressions)]
-pub(crate) fn plan_sum(
-    alloc: Global,
-    text: &[u8],
+/// Walks over an expression, whose names are those of an array's table, of a part's parameters and of the loops
+/// around it.
+///
+/// `Memory`: an allocation was refused.
+#[tactic(auto, unfolding(crate::specs::Expressions::value_walked))]
+pub(crate) fn walk_value(
+    scope: &Scope,
+    site: Site,
     params: &[Span],
-    states: &[StateDecl],
+    loops: &[Span],
+    notes: &mut Notes,
+    value: &Expr,
+) -> Result<(), Memory>
+    ensures { OnOk result (notes.new ≡ value_walked scope.now.text.now scope.now.table.now site params.now loops.now value.now notes.old) }
+{
+    walk_expr(scope, site, params, loops, notes, value)?;
+    Ok(())
+}
+
+#[cycle(expressions)]
+fn walk_expr(
+    scope: &Scope,
+    site: Site,
+    params: &[Span],
+    loops: &[Span],
+    notes: &mut Notes,
+    expr: &Expr,
+) -> Result<(), Memory>
+    ensures { OnOk result (notes.new ≡ expr_walked scope.now.text.now scope.now.table.now site params.now loops.now expr.now notes.old) }
+{
+    walk_conj(scope, site, params, loops, notes, &expr.first)?;
+    walk_conjs(scope, site, params, loops, notes, expr.others.as_slice())?;
+    Ok(())
+}
+
+#[cycle(expressions)]
+fn walk_conjs(
+    scope: &Scope,
+    site: Site,
+    params: &[Span],
+    loops: &[Span],
+    notes: &mut Notes,
+    conjs: &[Conj],
+) -> Result<(), Memory>
+    ensures { OnOk result (notes.new ≡ in_order (map (conj_walked scope.now.text.now scope.now.table.now site params.now loops.now) conjs.now) notes.old) }
+{
+    for conj in conjs {
+        walk_conj(scope, site, params, loops, notes, conj)?;
+    }
+    Ok(())
+}
+
+#[cycle(expressions)]
+fn walk_conj(
+    scope: &Scope,
+    site: Site,
+    params: &[Span],
+    loops: &[Span],
+    notes: &mut Notes,
+    conj: &Conj,
+) -> Result<(), Memory>
+    ensures { OnOk result (notes.new ≡ conj_walked scope.now.text.now scope.now.table.now site params.now loops.now conj.now notes.old) }
+{
+    walk_test(scope, site, params, loops, notes, &conj.first)?;
+    walk_tests(scope, site, params, loops, notes, conj.others.as_slice())?;
+    Ok(())
+}
+
+#[cycle(expressions)]
+fn walk_tests(
+    scope: &Scope,
+    site: Site,
+    params: &[Span],
+    loops: &[Span],
+    notes: &mut Notes,
+    tests: &[Test],
+) -> Result<(), Memory>
+    ensures { OnOk result (notes.new ≡ in_order (map (test_walked scope.now.text.now scope.now.table.now site params.now loops.now) tests.now) notes.old) }
+{
+    for test in tests {
+        walk_test(scope, site, params, loops, notes, test)?;
+    }
+    Ok(())
+}
+
+#[cycle(expressions)]
+fn walk_test(
+    scope: &Scope,
+    site: Site,
+    params: &[Span],
+    loops: &[Span],
+    notes: &mut Notes,
+    test: &Test,
+) -> Result<(), Memory>
+    ensures { OnOk result (notes.new ≡ test_walked scope.now.text.now scope.now.table.now site params.now loops.now test.now notes.old) }
+{
+    match test {
+        Test::Not { operand, .. } => walk_test(scope, site, params, loops, notes, operand.get())?,
+        Test::Alone(sum) => walk_sum(scope, site, params, loops, notes, sum)?,
+        Test::Compare { left, right, .. } => {
+            walk_sum(scope, site, params, loops, notes, left)?;
+            walk_sum(scope, site, params, loops, notes, right)?;
+        }
+    }
+    Ok(())
+}
+
+#[cycle(expressions)]
+fn walk_sum(
+    scope: &Scope,
+    site: Site,
+    params: &[Span],
+    loops: &[Span],
+    notes: &mut Notes,
     sum: &Sum,
-) -> Result<Expr, CheckFault>
-    requires params { length params.now < 2 ^ 8 }
-    requires states { length states.now < 2 ^ 16 }
-    ensures { Gives (λ e. e) result (sum_planned text.now params.now states.now sum.now) }
+) -> Result<(), Memory>
+    ensures { OnOk result (notes.new ≡ sum_walked scope.now.text.now scope.now.table.now site params.now loops.now sum.now notes.old) }
 {
-    let first = plan_product(alloc, text, params, states, &sum.first)?;
-    let others = plan_terms(alloc, text, params, states, sum.others.as_slice())?;
-    if others.is_empty() {
-        return Ok(first);
-    }
-    Ok(Expr::Sum(Boxed::new(alloc, first)?, others))
+    walk_product(scope, site, params, loops, notes, &sum.first)?;
+    walk_sum_terms(scope, site, params, loops, notes, sum.others.as_slice())?;
+    Ok(())
 }
 
-// The plans of a sum's other operands.
 #[cycle(expressions)]
-fn plan_terms(
-    alloc: Global,
-    text: &[u8],
+fn walk_sum_terms(
+    scope: &Scope,
+    site: Site,
     params: &[Span],
-    states: &[StateDecl],
-    terms: &[SumTerm],
-) -> Result<Items<Term>, CheckFault>
-    requires params { length params.now < 2 ^ 8 }
-    requires states { length states.now < 2 ^ 16 }
-    ensures { Gives (λ ts. ts) result (all_some (map (term_planned text.now params.now states.now) terms.now)) }
+    loops: &[Span],
+    notes: &mut Notes,
+    sum_terms: &[SumTerm],
+) -> Result<(), Memory>
+    ensures { OnOk result (notes.new ≡ in_order (map (sum_term_walked scope.now.text.now scope.now.table.now site params.now loops.now) sum_terms.now) notes.old) }
 {
-    let mut planned = Items::new(alloc);
-    'terms: for term in terms {
-        let value = plan_product(alloc, text, params, states, &term.value)?;
-        planned.push(Term {
-            op: add_op(term.op),
-            value,
-        })?;
+    for sum_term in sum_terms {
+        walk_sum_term(scope, site, params, loops, notes, sum_term)?;
     }
-    Ok(planned)
+    Ok(())
 }
 
-fn add_op(op: tree::AddOp) -> AddOp
-    ensures { result ≡ add_op op }
-{
-    match op {
-        tree::AddOp::Plus => AddOp::Plus,
-        tree::AddOp::Minus => AddOp::Minus,
-    }
-}
-
-fn mul_op(op: tree::MulOp) -> MulOp
-    ensures { result ≡ mul_op op }
-{
-    match op {
-        tree::MulOp::Times => MulOp::Times,
-    }
-}
-
-// The plan of a product.
 #[cycle(expressions)]
-fn plan_product(
-    alloc: Global,
-    text: &[u8],
+fn walk_sum_term(
+    scope: &Scope,
+    site: Site,
     params: &[Span],
-    states: &[StateDecl],
+    loops: &[Span],
+    notes: &mut Notes,
+    sum_term: &SumTerm,
+) -> Result<(), Memory>
+    ensures { OnOk result (notes.new ≡ sum_term_walked scope.now.text.now scope.now.table.now site params.now loops.now sum_term.now notes.old) }
+{
+    walk_product(scope, site, params, loops, notes, &sum_term.value)?;
+    Ok(())
+}
+
+#[cycle(expressions)]
+fn walk_product(
+    scope: &Scope,
+    site: Site,
+    params: &[Span],
+    loops: &[Span],
+    notes: &mut Notes,
     product: &Product,
-) -> Result<Expr, CheckFault>
-    requires params { length params.now < 2 ^ 8 }
-    requires states { length states.now < 2 ^ 16 }
-    ensures { Gives (λ e. e) result (product_planned text.now params.now states.now product.now) }
+) -> Result<(), Memory>
+    ensures { OnOk result (notes.new ≡ product_walked scope.now.text.now scope.now.table.now site params.now loops.now product.now notes.old) }
 {
-    let first = plan_unary(alloc, text, params, states, &product.first)?;
-    let others = plan_factors(alloc, text, params, states, product.others.as_slice())?;
-    if others.is_empty() {
-        return Ok(first);
-    }
-    Ok(Expr::Product(Boxed::new(alloc, first)?, others))
+    walk_unary(scope, site, params, loops, notes, &product.first)?;
+    walk_product_terms(scope, site, params, loops, notes, product.others.as_slice())?;
+    Ok(())
 }
 
-// The plans of a product's other operands.
 #[cycle(expressions)]
-fn plan_factors(
-    alloc: Global,
-    text: &[u8],
+fn walk_product_terms(
+    scope: &Scope,
+    site: Site,
     params: &[Span],
-    states: &[StateDecl],
-    factors: &[ProductTerm],
-) -> Result<Items<Factor>, CheckFault>
-    requires params { length params.now < 2 ^ 8 }
-    requires states { length states.now < 2 ^ 16 }
-    ensures { Gives (λ fs. fs) result (all_some (map (factor_planned text.now params.now states.now) factors.now)) }
+    loops: &[Span],
+    notes: &mut Notes,
+    product_terms: &[ProductTerm],
+) -> Result<(), Memory>
+    ensures { OnOk result (notes.new ≡ in_order (map (product_term_walked scope.now.text.now scope.now.table.now site params.now loops.now) product_terms.now) notes.old) }
 {
-    let mut planned = Items::new(alloc);
-    'factors: for factor in factors {
-        let value = plan_unary(alloc, text, params, states, &factor.value)?;
-        planned.push(Factor {
-            op: mul_op(factor.op),
-            value,
-        })?;
+    for product_term in product_terms {
+        walk_product_term(scope, site, params, loops, notes, product_term)?;
     }
-    Ok(planned)
+    Ok(())
 }
 
-// The plan of a unary.
 #[cycle(expressions)]
-fn plan_unary(
-    alloc: Global,
-    text: &[u8],
+fn walk_product_term(
+    scope: &Scope,
+    site: Site,
     params: &[Span],
-    states: &[StateDecl],
+    loops: &[Span],
+    notes: &mut Notes,
+    product_term: &ProductTerm,
+) -> Result<(), Memory>
+    ensures { OnOk result (notes.new ≡ product_term_walked scope.now.text.now scope.now.table.now site params.now loops.now product_term.now notes.old) }
+{
+    walk_unary(scope, site, params, loops, notes, &product_term.value)?;
+    Ok(())
+}
+
+#[cycle(expressions)]
+fn walk_unary(
+    scope: &Scope,
+    site: Site,
+    params: &[Span],
+    loops: &[Span],
+    notes: &mut Notes,
     unary: &Unary,
-) -> Result<Expr, CheckFault>
-    requires params { length params.now < 2 ^ 8 }
-    requires states { length states.now < 2 ^ 16 }
-    ensures { Gives (λ e. e) result (unary_planned text.now params.now states.now unary.now) }
+) -> Result<(), Memory>
+    ensures { OnOk result (notes.new ≡ unary_walked scope.now.text.now scope.now.table.now site params.now loops.now unary.now notes.old) }
 {
     match unary {
-        Unary::Minus(operand) => {
-            let value = plan_unary(alloc, text, params, states, operand.get())?;
-            Ok(Expr::Minus(Boxed::new(alloc, value)?))
-        }
-        Unary::Atom(atom) => plan_atom(alloc, text, params, states, atom),
+        Unary::Minus { operand, .. } => walk_unary(
+            scope,
+            site,
+            params,
+            loops,
+            notes,
+            operand.get(),
+        )?,
+        Unary::Atom(atom) => walk_atom(scope, site, params, loops, notes, atom)?,
     }
+    Ok(())
 }
 
-// The plan of an atom.
 #[cycle(expressions)]
-fn plan_atom(
-    alloc: Global,
-    text: &[u8],
+fn walk_atom(
+    scope: &Scope,
+    site: Site,
     params: &[Span],
-    states: &[StateDecl],
+    loops: &[Span],
+    notes: &mut Notes,
     atom: &Atom,
-) -> Result<Expr, CheckFault>
-    requires params { length params.now < 2 ^ 8 }
-    requires states { length states.now < 2 ^ 16 }
-    ensures { Gives (λ e. e) result (atom_planned text.now params.now states.now atom.now) }
+) -> Result<(), Memory>
+    ensures { OnOk result (notes.new ≡ atom_walked scope.now.text.now scope.now.table.now site params.now loops.now atom.now notes.old) }
 {
     match atom {
-        Atom::Number(number) => plan_number(number.value),
-        Atom::Name(name) => plan_name(text, params, states, *name),
-        Atom::Index => Ok(Expr::Index),
-        Atom::Group(sum) => plan_sum(alloc, text, params, states, sum.get()),
+        Atom::Number(_) => {}
+        Atom::Name(name) => walk_name(scope, site, params, loops, notes, *name, false)?,
+        Atom::Cell { name, index } => {
+            walk_name(scope, site, params, loops, notes, *name, true)?;
+            walk_expr(scope, site, params, loops, notes, index.get())?;
+        }
+        Atom::Here { at, word } => walk_here(site, *at, *word, notes),
+        Atom::Choice { first, second, .. } => {
+            walk_expr(scope, site, params, loops, notes, first.get())?;
+            walk_expr(scope, site, params, loops, notes, second.get())?;
+        }
+        Atom::Group { inner, .. } => walk_expr(scope, site, params, loops, notes, inner.get())?,
     }
+    Ok(())
 }
 
-// The plan of a name: the value of a parameter, or the cell of a state.
-fn plan_name(
-    text: &[u8],
+#[tactic(auto, unfolding(crate::specs::Expressions::name_walked))]
+fn walk_name(
+    scope: &Scope,
+    site: Site,
     params: &[Span],
-    states: &[StateDecl],
+    loops: &[Span],
+    notes: &mut Notes,
     name: Span,
-) -> Result<Expr, CheckFault>
-    requires params { length params.now < 2 ^ 8 }
-    requires states { length states.now < 2 ^ 16 }
-    ensures { Gives (λ e. e) result (named (param_named text.now params.now name) (state_named text.now states.now name)) }
+    indexed: bool,
+) -> Result<(), Memory>
+    ensures { OnOk result (notes.new ≡ name_walked scope.now.text.now scope.now.table.now site params.now loops.now name indexed notes.old) }
 {
-    match param_named(text, params, name) {
-        Some(number) => Ok(Expr::Mail(number as u8)),
-        None => match state_named(text, states, name) {
-            Some(number) => Ok(Expr::Cell(number as u32)),
-            None => Err(CheckFault::Refused),
-        },
+    let meaning = scope.meaning(name);
+    let local = scope.is_local(params, loops, name);
+    notes.note(name_fault(name));
+    read_name(site, meaning, local, name, indexed, notes)?;
+    Ok(())
+}
+
+// A name with this meaning in the array's table, in scope or not.
+fn read_name(
+    site: Site,
+    meaning: Option<Meaning>,
+    local: bool,
+    name: Span,
+    indexed: bool,
+    notes: &mut Notes,
+) -> Result<(), Memory>
+    ensures { OnOk result (notes.new ≡ value_named site meaning local name indexed notes.old) }
+{
+    match meaning {
+        Some(
+            Meaning::State {
+                number,
+                declared,
+                plain,
+                ..
+            },
+        ) => {
+            read_state(site, number, declared, plain, name, indexed, notes)?;
+        }
+        _ => notes.note(local_fault(local, name, indexed)),
+    }
+    Ok(())
+}
+
+// An initial value reads no state.
+fn read_state(
+    site: Site,
+    number: usize,
+    declared: u32,
+    plain: bool,
+    name: Span,
+    indexed: bool,
+    notes: &mut Notes,
+) -> Result<(), Memory>
+    ensures { OnOk result (notes.new ≡ state_read site number declared plain name indexed notes.old) }
+{
+    let kind = CheckFault::Kind { at: name.at };
+    match site {
+        Site::Part { number: part } => {
+            notes.note(fault_if(misindexed(plain, indexed), kind));
+            notes.note_use(state_use(number, declared, part, name, false))?;
+        }
+        Site::Start { .. } => notes.note(Some(kind)),
+    }
+    Ok(())
+}
+
+/// The use of a state's name in a part.
+pub(crate) fn state_use(
+    state: usize,
+    declared: u32,
+    part: usize,
+    name: Span,
+    written: bool,
+) -> StateUse
+    ensures { result ≡ state_use state declared part name written }
+{
+    StateUse {
+        state,
+        declared,
+        part,
+        at: name.at,
+        written,
     }
 }
 
-// A number of 63 bits.
-fn plan_number(value: u64) -> Result<Expr, CheckFault>
-    ensures { Gives (λ e. e) result (literal value) }
+// A parameter and a loop's name have no index.
+fn local_fault(local: bool, name: Span, indexed: bool) -> Option<CheckFault>
+    ensures { result ≡ local_fault local name indexed }
 {
-    match i64::try_from(value) {
-        Ok(number) => Ok(Expr::Number(number)),
-        Err(_) => Err(CheckFault::Refused),
+    if local {
+        fault_if(indexed, CheckFault::Kind { at: name.at })
+    } else {
+        Some(CheckFault::Unknown { at: name.at })
     }
+}
+
+#[tactic(auto, unfolding(crate::specs::Expressions::here_walked))]
+fn walk_here(site: Site, at: u32, word: Here, notes: &mut Notes)
+    ensures { notes.new ≡ here_walked site at word notes.old }
+{
+    notes.note(fault_if(misplaced(site, word), CheckFault::Kind { at }));
+}
+
+// Iterations are counted in steps alone, and cells in the initial value of a state with a size.
+fn misplaced(site: Site, word: Here) -> bool
+    ensures { result ≡ misplaced site word }
+{
+    match (site, word) {
+        (Site::Part { .. }, Here::Cell) => true,
+        (Site::Start { sized }, Here::Cell) => !sized,
+        (Site::Start { .. }, Here::Iter) => true,
+        _ => false,
+    }
+}
+
+/// Whether a state's name has an index where there may be none, or none where there has to be one.
+pub(crate) fn misindexed(plain: bool, indexed: bool) -> bool
+    ensures { result ≡ misindexed plain indexed }
+{
+    if plain { indexed } else { !indexed }
 }

@@ -1,12 +1,97 @@
-//! Names by their places in the text.
+//! Names by their places in the text, and what they are declared as.
 
-ghost use Rattle.std.specs.Prelude.{◌≡◌, ◌<◌, ◌==◌, not, IfSome, length};
-ghost use Rattle.std.specs.List.{list_all, list_any};
-ghost use Rattle.chare_base.specs.Limits.{name_fits};
-ghost use Rattle.chare_checker.specs.Names.{bytes_at, same_name, state_named, entry_named, param_named, distinct_params, is_declared, params_hold};
+ghost use Rattle.std.specs.Prelude.{◌≡◌, [], OnOk, OnErr};
+ghost use Rattle.chare_checker.specs.Names.{bytes_at, declare, local_named, lookup, same_name};
 
+use chare_base::memory::Memory;
 use chare_syntax::token::Span;
-use chare_syntax::tree::{ArrayDecl, EntryDecl, StateDecl};
+use indexmap::IndexMap;
+use std::alloc::Global;
+use std::marker::Model;
+
+/// What a name is declared as. Numbers count from 0, in text order.
+#[derive(Clone, Copy, Debug, PartialEq, Eq)]
+pub enum Meaning {
+    /// An array of the job: its number.
+    Array {
+        number: usize,
+    },
+    /// A state of an array: its number there, the place of its declaration, whether it is named without an index,
+    /// its first cell's number in the element, and how many cells it has.
+    State {
+        number: usize,
+        declared: u32,
+        plain: bool,
+        at: u64,
+        cells: u64,
+    },
+    /// An entry of an array: its number among all ports of the job (entries and reductions), its number among the
+    /// job's entries, the number of the array whose elements send, if there is one, and how many values a message
+    /// has.
+    Entry {
+        port: usize,
+        number: usize,
+        source: Option<usize>,
+        values: u64,
+    },
+    /// A reduction of an array: its number among all ports of the job, and among the job's reductions.
+    Reduction {
+        port: usize,
+        number: usize,
+    },
+}
+
+/// The names that are declared in a place, in the order of their first declarations. Contracts see them as a list.
+#[derive(Drop)]
+pub struct Names {
+    map: IndexMap<Vec<u8>, Meaning>,
+}
+
+impl Model for Names {
+    ghost use Rattle.std.specs.Prelude.{List};
+    ghost use Rattle.chare_checker.specs.Names.{Known, known};
+
+    ghost Value = { List Known };
+
+    ghost view = { λ n. known n.map.entries };
+}
+
+impl Names {
+    /// No names.
+    pub(crate) fn new(alloc: Global) -> Names
+        ensures { result ≡ [] }
+    {
+        Names {
+            map: IndexMap::new(alloc),
+        }
+    }
+
+    /// What a name is declared as, if it is.
+    pub(crate) fn get(&self, name: &[u8]) -> Option<Meaning>
+        ensures { result ≡ lookup self.now name.now }
+    {
+        self.map.get(name).copied()
+    }
+
+    /// Declares a name, where it wasn't declared before.
+    ///
+    /// `Memory`: an allocation was refused; all is as before.
+    pub(crate) fn declare(
+        &mut self,
+        alloc: Global,
+        name: &[u8],
+        meaning: Meaning,
+    ) -> Result<(), Memory>
+        ensures ok { OnOk result (self.new ≡ declare self.old name.now meaning) }
+        ensures err { OnErr result (self.new ≡ self.old) }
+    {
+        if self.get(name).is_none() {
+            let name = Vec::from_slice(alloc, name)?;
+            self.map.insert(name, meaning)?;
+        }
+        Ok(())
+    }
+}
 
 /// The bytes of a name, cut to the text.
 pub(crate) fn bytes_at(text: &[u8], name: Span) -> &[u8]
@@ -32,88 +117,10 @@ pub(crate) fn same_name(text: &[u8], a: Span, b: Span) -> bool
     bytes_at(text, a) == bytes_at(text, b)
 }
 
-/// The number of the first state of this name, if there is one.
-pub(crate) fn state_named(text: &[u8], states: &[StateDecl], name: Span) -> Option<usize>
-    ensures exact { result ≡ state_named text.now states.now name }
-    ensures within { IfSome result (λ number. number < length states.now) }
+/// The number of the first name in a list that is spelled so.
+#[tactic(auto, unfolding(crate::specs::Names::local_named))]
+pub(crate) fn local_named(text: &[u8], names: &[Span], name: Span) -> Option<usize>
+    ensures { result ≡ local_named text.now names.now name }
 {
-    states
-        .iter()
-        .position(|state| same_name(text, state.name, name))
-}
-
-/// The number of the first entry of this name, if there is one.
-pub(crate) fn entry_named(text: &[u8], entries: &[EntryDecl], name: Span) -> Option<usize>
-    ensures exact { result ≡ entry_named text.now entries.now name }
-    ensures within { IfSome result (λ number. number < length entries.now) }
-{
-    entries
-        .iter()
-        .position(|entry| same_name(text, entry.name, name))
-}
-
-/// The number of the first parameter of this name, if there is one.
-pub(crate) fn param_named(text: &[u8], params: &[Span], name: Span) -> Option<usize>
-    ensures exact { result ≡ param_named text.now params.now name }
-    ensures within { IfSome result (λ number. number < length params.now) }
-{
-    params
-        .iter()
-        .position(|param| same_name(text, *param, name))
-}
-
-/// Whether parameters are as many as a message has values, short enough, and have names of their own.
-pub(crate) fn params_hold(text: &[u8], array: &ArrayDecl, count: usize, params: &[Span]) -> bool
-    ensures { result ≡ params_hold text.now array.now count params.now }
-{
-    params.len() == count
-        && params_fit(text, params)
-        && distinct_params(text, params)
-        && none_declared(text, array, params)
-}
-
-fn params_fit(text: &[u8], params: &[Span]) -> bool
-    ensures { result ≡ list_all (λ p. name_fits (bytes_at text.now p)) params.now }
-{
-    params.iter().all(|param| name_fits(bytes_at(text, *param)))
-}
-
-fn name_fits(name: &[u8]) -> bool
-    ensures { result ≡ name_fits name.now }
-{
-    1 <= name.len() && name.len() <= 32
-}
-
-// No parameter has the name of another.
-fn distinct_params(text: &[u8], params: &[Span]) -> bool
-    ensures { result ≡ distinct_params text.now params.now }
-{
-    let mut rest = params;
-    'params: while let Some((first, more)) = rest.split_first() {
-        if is_among(text, *first, more) {
-            return false;
-        }
-        rest = more;
-    }
-    true
-}
-
-fn is_among(text: &[u8], name: Span, params: &[Span]) -> bool
-    ensures { result ≡ list_any (same_name text.now name) params.now }
-{
-    params.iter().any(|param| same_name(text, name, *param))
-}
-
-// No parameter has the name of a state or an entry of the array.
-fn none_declared(text: &[u8], array: &ArrayDecl, params: &[Span]) -> bool
-    ensures { result ≡ list_all (λ p. not (is_declared text.now array.now p)) params.now }
-{
-    params.iter().all(|param| !is_declared(text, array, *param))
-}
-
-fn is_declared(text: &[u8], array: &ArrayDecl, name: Span) -> bool
-    ensures { result ≡ is_declared text.now array.now name }
-{
-    state_named(text, array.states.as_slice(), name).is_some()
-        || entry_named(text, array.entries.as_slice(), name).is_some()
+    names.iter().position(|n| same_name(text, *n, name))
 }

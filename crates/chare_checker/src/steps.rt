@@ -1,267 +1,317 @@
-//! The plans of an array's steps.
+//! The walk over the initial values and the steps of a job, in text order.
 
-ghost use Rattle.std.specs.Prelude.{◌≡◌, ◌^◌, ◌<◌, ◌≤◌, length, map, IfOk, Some};
-ghost use Rattle.chare_checker.specs.Names.{entry_named};
-ghost use Rattle.chare_checker.specs.Options.{Gives, all_some};
-ghost use Rattle.chare_checker.specs.Planned.{assign_planned, block_planned, one_part, port_planned, send_planned, sent_planned, step_planned, stmt_planned, values_planned, values_sent, when_planned};
+ghost use Rattle.std.specs.Prelude.{◌≡◌, ◌∷◌, IfOk, OnOk};
+ghost use Rattle.chare_checker.specs.Steps.{array_walked, array_with, arrays_walked, body_walked, free_part, job_walked, names_listed, param_walked, params_walked, part_at, part_walked, part_with, parts_walked, port_named, start_walked, starts_walked, step_closed, step_walked, steps_walked, when_walked};
 
-use crate::entries::plan_count;
-use crate::expressions::plan_sum;
-use crate::fault::CheckFault;
-use crate::names::{entry_named, params_hold, same_name, state_named};
-use chare_base::expression::Expr;
-use chare_base::message::{EntryId, Need, Port};
-use chare_base::plan::{Part, Step, Stmt};
+use crate::expressions::walk_value;
+use crate::fault::{CheckFault, fault_if, name_fault};
+use crate::names::{Meaning, Names, local_named};
+use crate::notes::Notes;
+use crate::overlap::overlap_fault;
+use crate::statements::{is_number, mismatch_fault, port_use, walk_block};
+use crate::tables::JobNames;
+use crate::walk::{PartAt, Scope, Site};
+use chare_base::memory::Memory;
 use chare_syntax::token::Span;
-use chare_syntax::tree::{
-    ArrayDecl, EntryDecl, SendDecl, StateDecl, StepDecl, StmtDecl, Sum, WhenDecl,
-};
+use chare_syntax::tree::{self, ArrayDecl, Block, Job, PartDecl, StateDecl, StepBody, StepDecl};
 use sqlite_items::Items;
 use std::alloc::Global;
 
-/// The plans of an array's steps. Refused exactly where one has none.
-pub(crate) fn plan_steps(
+/// Walks over a job, whose names are these.
+///
+/// `Memory`: an allocation was refused.
+#[tactic(auto, unfolding(crate::specs::Steps::job_walked))]
+pub(crate) fn walk_job(
     alloc: Global,
     text: &[u8],
-    array: &ArrayDecl,
-) -> Result<Items<Step>, CheckFault>
-    requires states { length array.now.states < 2 ^ 16 }
-    requires entries { length array.now.entries < 2 ^ 16 }
-    ensures { Gives (λ s. s) result (all_some (map (step_planned text.now array.now) array.now.steps)) }
+    names: &JobNames,
+    job: &Job,
+    notes: &mut Notes,
+) -> Result<(), Memory>
+    ensures { OnOk result (notes.new ≡ job_walked text.now names.now job.now notes.old) }
 {
-    plan_each_step(alloc, text, array, array.steps.as_slice())
+    walk_arrays(alloc, text, names, job.arrays.as_slice(), notes)?;
+    Ok(())
 }
 
-fn plan_each_step(
+fn walk_arrays(
     alloc: Global,
     text: &[u8],
+    names: &JobNames,
+    arrays: &[ArrayDecl],
+    notes: &mut Notes,
+) -> Result<(), Memory>
+    ensures { OnOk result (notes.new ≡ arrays_walked text.now names.now 0 arrays.now notes.old) }
+{
+    for (number, array) in arrays.iter().enumerate() {
+        walk_array(alloc, text, names, number, array, notes)?;
+    }
+    Ok(())
+}
+
+fn walk_array(
+    alloc: Global,
+    text: &[u8],
+    names: &JobNames,
+    number: usize,
     array: &ArrayDecl,
+    notes: &mut Notes,
+) -> Result<(), Memory>
+    ensures { OnOk result (notes.new ≡ array_walked text.now names.now number array.now notes.old) }
+{
+    match names.tables.get(number) {
+        Some(table) => {
+            let scope = Scope { text, names, table };
+            walk_with(alloc, &scope, number, array, notes)?;
+        }
+        None => {
+            let none = Names::new(alloc);
+            let scope = Scope {
+                text,
+                names,
+                table: &none,
+            };
+            walk_with(alloc, &scope, number, array, notes)?;
+        }
+    }
+    Ok(())
+}
+
+// An array with these names.
+fn walk_with(
+    alloc: Global,
+    scope: &Scope,
+    number: usize,
+    array: &ArrayDecl,
+    notes: &mut Notes,
+) -> Result<(), Memory>
+    ensures { OnOk result (notes.new ≡ array_with scope.now.text.now scope.now.names.now scope.now.table.now number array.now notes.old) }
+{
+    walk_starts(scope, array.states.as_slice(), notes)?;
+    walk_steps(alloc, scope, number, array.steps.as_slice(), notes)?;
+    Ok(())
+}
+
+fn walk_starts(scope: &Scope, states: &[StateDecl], notes: &mut Notes) -> Result<(), Memory>
+    ensures { OnOk result (notes.new ≡ starts_walked scope.now.text.now scope.now.table.now states.now notes.old) }
+{
+    for state in states {
+        walk_start(scope, state, notes)?;
+    }
+    Ok(())
+}
+
+fn walk_start(scope: &Scope, state: &StateDecl, notes: &mut Notes) -> Result<(), Memory>
+    ensures { OnOk result (notes.new ≡ start_walked scope.now.text.now scope.now.table.now state.now notes.old) }
+{
+    let site = Site::Start {
+        sized: state.cells.is_some(),
+    };
+    walk_value(scope, site, &[], &[], notes, &state.start)?;
+    Ok(())
+}
+
+fn walk_steps(
+    alloc: Global,
+    scope: &Scope,
+    array: usize,
     steps: &[StepDecl],
-) -> Result<Items<Step>, CheckFault>
-    requires states { length array.now.states < 2 ^ 16 }
-    requires entries { length array.now.entries < 2 ^ 16 }
-    ensures { Gives (λ s. s) result (all_some (map (step_planned text.now array.now) steps.now)) }
+    notes: &mut Notes,
+) -> Result<(), Memory>
+    ensures { OnOk result (notes.new ≡ steps_walked scope.now.text.now scope.now.names.now scope.now.table.now array 0 steps.now notes.old) }
 {
-    let mut planned = Items::new(alloc);
-    for step in steps {
-        planned.push(plan_step(alloc, text, array, step)?)?;
+    for (number, step) in steps.iter().enumerate() {
+        walk_step(alloc, scope, array, number, step, notes)?;
     }
-    Ok(planned)
+    Ok(())
 }
 
-// The plan of a step, which has one part.
-fn plan_step(
+fn walk_step(
     alloc: Global,
-    text: &[u8],
-    array: &ArrayDecl,
+    scope: &Scope,
+    array: usize,
+    number: usize,
     step: &StepDecl,
-) -> Result<Step, CheckFault>
-    requires states { length array.now.states < 2 ^ 16 }
-    requires entries { length array.now.entries < 2 ^ 16 }
-    ensures { Gives (λ s. s) result (step_planned text.now array.now step.now) }
+    notes: &mut Notes,
+) -> Result<(), Memory>
+    ensures { OnOk result (notes.new ≡ step_walked scope.now.text.now scope.now.names.now scope.now.table.now array number step.now notes.old) }
 {
-    match step {
-        StepDecl::Block(block) => {
-            let block = plan_block(alloc, text, array, &[], block.as_slice())?;
-            one_part(alloc, Need::Nothing, block)
+    walk_body(alloc, scope, array, number, &step.body, notes)?;
+    close_step(alloc, notes);
+    Ok(())
+}
+
+// Parts that clash are known at the end of their step.
+#[tactic(auto, unfolding(crate::specs::Steps::step_closed))]
+fn close_step(alloc: Global, notes: &mut Notes)
+    ensures { notes.new ≡ step_closed notes.old }
+{
+    notes.found = overlap_fault(notes.uses.as_slice(), notes.found);
+    notes.uses = Items::new(alloc);
+}
+
+fn walk_body(
+    alloc: Global,
+    scope: &Scope,
+    array: usize,
+    step: usize,
+    body: &StepBody,
+    notes: &mut Notes,
+) -> Result<(), Memory>
+    ensures { OnOk result (notes.new ≡ body_walked scope.now.text.now scope.now.names.now scope.now.table.now array step body.now notes.old) }
+{
+    match body {
+        StepBody::Block(block) => {
+            walk_free_part(alloc, scope, part_at(array, step, 0), block, notes)?;
         }
-        StepDecl::When(when) => plan_when(alloc, text, array, when),
-    }
-}
-
-// A step of one part.
-fn one_part(alloc: Global, need: Need, block: Items<Stmt>) -> Result<Step, CheckFault>
-    ensures { Gives (λ s. s) result (Some (one_part need block)) }
-{
-    let mut parts = Items::new(alloc);
-    parts.push(Part { need, block })?;
-    Ok(Step { parts })
-}
-
-// The plan of a step that waits for a message.
-fn plan_when(
-    alloc: Global,
-    text: &[u8],
-    array: &ArrayDecl,
-    when: &WhenDecl,
-) -> Result<Step, CheckFault>
-    requires states { length array.now.states < 2 ^ 16 }
-    requires entries { length array.now.entries < 2 ^ 16 }
-    ensures { Gives (λ s. s) result (when_planned text.now array.now when.now) }
-{
-    let number = plan_port(text, array, when)?;
-    let names = when.names.as_slice();
-    let block = plan_block(alloc, text, array, names, when.block.as_slice())?;
-    let step = one_part(alloc, Need::Port(Port::Entry(EntryId(number))), block)?;
-    Ok(step)
-}
-
-// The entry that a step waits for, where its parameters are right.
-fn plan_port(text: &[u8], array: &ArrayDecl, when: &WhenDecl) -> Result<u16, CheckFault>
-    requires entries { length array.now.entries < 2 ^ 16 }
-    ensures exact { Gives (λ n. n) result (port_planned text.now array.now when.now) }
-    ensures few { IfOk result (λ n. length when.now.names ≤ 8) }
-{
-    let number = entry_number(text, array.entries.as_slice(), when.port)?;
-    let count = values_of(array.entries.as_slice(), number)?;
-    if params_hold(text, array, count as usize, when.names.as_slice()) {
-        Ok(number)
-    } else {
-        Err(CheckFault::Refused)
-    }
-}
-
-// The number of the entry of this name.
-fn entry_number(text: &[u8], entries: &[EntryDecl], name: Span) -> Result<u16, CheckFault>
-    requires { length entries.now < 2 ^ 16 }
-    ensures exact { Gives (λ n. n) result (entry_named text.now entries.now name) }
-    ensures within { IfOk result (λ n. n < length entries.now) }
-{
-    match entry_named(text, entries, name) {
-        Some(number) => Ok(number as u16),
-        None => Err(CheckFault::Refused),
-    }
-}
-
-// How many values the messages of an entry have.
-fn values_of(entries: &[EntryDecl], number: u16) -> Result<u64, CheckFault>
-    requires { number < length entries.now }
-    ensures exact { Gives (λ n. n) result (values_planned entries.now number) }
-    ensures few { IfOk result (λ n. n ≤ 8) }
-{
-    plan_count(entries[number as usize].values)
-}
-
-// The plans of the statements of a block.
-fn plan_block(
-    alloc: Global,
-    text: &[u8],
-    array: &ArrayDecl,
-    params: &[Span],
-    block: &[StmtDecl],
-) -> Result<Items<Stmt>, CheckFault>
-    requires states { length array.now.states < 2 ^ 16 }
-    requires entries { length array.now.entries < 2 ^ 16 }
-    requires params { length params.now < 2 ^ 8 }
-    ensures { Gives (λ s. s) result (block_planned text.now array.now params.now block.now) }
-{
-    let mut planned = Items::new(alloc);
-    for stmt in block {
-        planned.push(plan_stmt(alloc, text, array, params, stmt)?)?;
-    }
-    Ok(planned)
-}
-
-// The plan of a statement.
-fn plan_stmt(
-    alloc: Global,
-    text: &[u8],
-    array: &ArrayDecl,
-    params: &[Span],
-    stmt: &StmtDecl,
-) -> Result<Stmt, CheckFault>
-    requires states { length array.now.states < 2 ^ 16 }
-    requires entries { length array.now.entries < 2 ^ 16 }
-    requires params { length params.now < 2 ^ 8 }
-    ensures { Gives (λ s. s) result (stmt_planned text.now array.now params.now stmt.now) }
-{
-    match stmt {
-        StmtDecl::Assign { target, value } => {
-            let states = array.states.as_slice();
-            let planned = plan_assign(alloc, text, params, states, *target, value)?;
-            Ok(planned)
+        StepBody::Part(part) => {
+            walk_part(alloc, scope, part_at(array, step, 0), part, notes)?;
         }
-        StmtDecl::Send(send) => {
-            let planned = plan_send(alloc, text, array, params, send)?;
-            Ok(planned)
+        StepBody::Overlap { parts, .. } => {
+            walk_parts(alloc, scope, array, step, parts.as_slice(), notes)?;
         }
     }
+    Ok(())
 }
 
-// The plan of an assignment to a state.
-fn plan_assign(
+fn walk_parts(
     alloc: Global,
-    text: &[u8],
-    params: &[Span],
-    states: &[StateDecl],
-    target: Span,
-    value: &Sum,
-) -> Result<Stmt, CheckFault>
-    requires params { length params.now < 2 ^ 8 }
-    requires states { length states.now < 2 ^ 16 }
-    ensures { Gives (λ s. s) result (assign_planned text.now params.now states.now target value.now) }
+    scope: &Scope,
+    array: usize,
+    step: usize,
+    parts: &[PartDecl],
+    notes: &mut Notes,
+) -> Result<(), Memory>
+    ensures { OnOk result (notes.new ≡ parts_walked scope.now.text.now scope.now.names.now scope.now.table.now array step 0 parts.now notes.old) }
 {
-    match state_named(text, states, target) {
-        Some(number) => {
-            let value = plan_sum(alloc, text, params, states, value)?;
-            Ok(Stmt::Set {
-                cell: number as u32,
-                value,
-            })
+    for (number, part) in parts.iter().enumerate() {
+        walk_part(alloc, scope, part_at(array, step, number), part, notes)?;
+    }
+    Ok(())
+}
+
+// A block that waits for nothing.
+fn walk_free_part(
+    alloc: Global,
+    scope: &Scope,
+    part: PartAt,
+    block: &Block,
+    notes: &mut Notes,
+) -> Result<(), Memory>
+    ensures { OnOk result (notes.new ≡ free_part scope.now.text.now scope.now.names.now scope.now.table.now part block.now notes.old) }
+{
+    let mut loops = Vec::new(alloc);
+    walk_block(scope, part, &[], &mut loops, false, notes, block)?;
+    Ok(())
+}
+
+// A block that waits for a message or a total.
+fn walk_part(
+    alloc: Global,
+    scope: &Scope,
+    at: PartAt,
+    part: &PartDecl,
+    notes: &mut Notes,
+) -> Result<(), Memory>
+    ensures { OnOk result (notes.new ≡ part_walked scope.now.text.now scope.now.names.now scope.now.table.now at part.now notes.old) }
+{
+    let params = names_listed(alloc, &part.names)?;
+    walk_part_with(alloc, scope, at, params.as_slice(), part, notes)?;
+    Ok(())
+}
+
+// A part that waits for these parameters.
+#[tactic(auto, unfolding(crate::specs::Steps::part_with))]
+fn walk_part_with(
+    alloc: Global,
+    scope: &Scope,
+    at: PartAt,
+    params: &[Span],
+    part: &PartDecl,
+    notes: &mut Notes,
+) -> Result<(), Memory>
+    ensures { OnOk result (notes.new ≡ part_with scope.now.text.now scope.now.names.now scope.now.table.now at params.now part.now notes.old) }
+{
+    walk_when(scope, at, part.at, params.len(), part.port, notes)?;
+    walk_params(scope, params, notes);
+    let mut loops = Vec::new(alloc);
+    walk_block(scope, at, params, &mut loops, false, notes, &part.block)?;
+    Ok(())
+}
+
+fn names_listed(alloc: Global, names: &tree::Names) -> Result<Vec<Span>, Memory>
+    ensures { IfOk result (λ listed. listed.items ≡ names_listed names.now) }
+{
+    let mut listed = Vec::new(alloc);
+    listed.push(names.first)?;
+    listed.extend_from_slice(names.others.as_slice())?;
+    Ok(listed)
+}
+
+fn walk_params(scope: &Scope, params: &[Span], notes: &mut Notes)
+    ensures { notes.new ≡ params_walked scope.now.text.now scope.now.table.now params.now 0 params.now notes.old }
+{
+    for (number, param) in params.iter().enumerate() {
+        walk_param(scope, params, number, *param, notes);
+    }
+}
+
+// A parameter is declared where no other name of the array and no parameter before has its name.
+#[tactic(auto, unfolding(crate::specs::Steps::param_walked))]
+fn walk_param(scope: &Scope, params: &[Span], number: usize, name: Span, notes: &mut Notes)
+    ensures { notes.new ≡ param_walked scope.now.text.now scope.now.table.now params.now number name notes.old }
+{
+    let first = is_number(number, local_named(scope.text, params, name));
+    let taken = scope.meaning(name).is_some() || !first;
+    notes.note(name_fault(name));
+    notes.note(fault_if(taken, CheckFault::Twice { at: name.at }));
+}
+
+#[tactic(auto, unfolding(crate::specs::Steps::when_walked))]
+fn walk_when(
+    scope: &Scope,
+    part: PartAt,
+    at: u32,
+    count: usize,
+    name: Span,
+    notes: &mut Notes,
+) -> Result<(), Memory>
+    ensures { OnOk result (notes.new ≡ when_walked scope.now.text.now scope.now.table.now part at count name notes.old) }
+{
+    let meaning = scope.meaning(name);
+    notes.note(name_fault(name));
+    wait_at(part, at, count, meaning, name, notes)?;
+    Ok(())
+}
+
+// So many names at a port with this meaning.
+fn wait_at(
+    part: PartAt,
+    at: u32,
+    count: usize,
+    meaning: Option<Meaning>,
+    name: Span,
+    notes: &mut Notes,
+) -> Result<(), Memory>
+    ensures { OnOk result (notes.new ≡ port_named part at count meaning name notes.old) }
+{
+    let kind = CheckFault::Kind { at: name.at };
+    match meaning {
+        Some(Meaning::Entry { port, values, .. }) => {
+            notes.note(fault_if(count as u64 != values, kind));
+            notes.note_received(port_use(port, part, at, false))?;
         }
-        None => Err(CheckFault::Refused),
+        Some(Meaning::Reduction { port, .. }) => {
+            notes.note(fault_if(count != 1, kind));
+            notes.note_received(port_use(port, part, at, false))?;
+        }
+        _ => notes.note(mismatch_fault(meaning, name)),
     }
+    Ok(())
 }
 
-// The plan of a send to an entry of the array.
-fn plan_send(
-    alloc: Global,
-    text: &[u8],
-    array: &ArrayDecl,
-    params: &[Span],
-    send: &SendDecl,
-) -> Result<Stmt, CheckFault>
-    requires states { length array.now.states < 2 ^ 16 }
-    requires entries { length array.now.entries < 2 ^ 16 }
-    requires params { length params.now < 2 ^ 8 }
-    ensures { Gives (λ s. s) result (send_planned text.now array.now params.now send.now) }
+fn part_at(array: usize, step: usize, part: usize) -> PartAt
+    ensures { result ≡ part_at array step part }
 {
-    if !same_name(text, send.array, array.name) {
-        return Err(CheckFault::Refused);
-    }
-    let entries = array.entries.as_slice();
-    let states = array.states.as_slice();
-    let planned = plan_sent(alloc, text, entries, params, states, send)?;
-    Ok(planned)
-}
-
-// The plan of values that are sent to the entry of a name.
-fn plan_sent(
-    alloc: Global,
-    text: &[u8],
-    entries: &[EntryDecl],
-    params: &[Span],
-    states: &[StateDecl],
-    send: &SendDecl,
-) -> Result<Stmt, CheckFault>
-    requires entries { length entries.now < 2 ^ 16 }
-    requires params { length params.now < 2 ^ 8 }
-    requires states { length states.now < 2 ^ 16 }
-    ensures { Gives (λ s. s) result (sent_planned text.now entries.now params.now states.now send.now) }
-{
-    let number = entry_number(text, entries, send.entry)?;
-    let values = plan_values(alloc, text, params, states, send.values.as_slice())?;
-    Ok(Stmt::Send {
-        entry: EntryId(number),
-        values,
-    })
-}
-
-// The plans of the values that are sent.
-fn plan_values(
-    alloc: Global,
-    text: &[u8],
-    params: &[Span],
-    states: &[StateDecl],
-    values: &[Sum],
-) -> Result<Items<Expr>, CheckFault>
-    requires params { length params.now < 2 ^ 8 }
-    requires states { length states.now < 2 ^ 16 }
-    ensures { Gives (λ es. es) result (values_sent text.now params.now states.now values.now) }
-{
-    let mut planned = Items::new(alloc);
-    for value in values {
-        planned.push(plan_sum(alloc, text, params, states, value)?)?;
-    }
-    Ok(planned)
+    PartAt { array, step, part }
 }

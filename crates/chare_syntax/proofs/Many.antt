@@ -1,160 +1,243 @@
 -- Items one after another.
-use Rattle.std.proofs.Common.{◌≡◌, ℕ, zero, suc, ◌<◌, ◌≤◌, ◌+◌, Bool, true, false, cond, List, [], ◌∷◌, ◌++◌, length, refl, ap, sym, ◌∙◌, append_assoc, arith, Ok, Err, subst}
-use Rattle.std.specs.List.{AllByRecursion, flat_map}
+use Rattle.std.proofs.Common.{◌≡◌, ℕ, zero, suc, ◌≤◌, ◌<◌, Bool, true, false, cond, inl, inr, List, [], ◌∷◌, ◌++◌, length, length-append, append_assoc, refl, ap, sym, ◌∙◌, arith, Ok, Err, subst}
+use Rattle.std.specs.Prelude.{◌||◌}
+use Rattle.std.proofs.lemmas.List.{append-nil}
 use Rattle.chare_syntax.specs.declared.token.Kind.{Kind}
 use Rattle.chare_syntax.specs.declared.token.Token.{Token}
-use Rattle.chare_syntax.specs.Fault.{◌>>=◌}
-use Rattle.chare_syntax.specs.Reading.{Read, goes, many_at, many, some}
-use Rattle.chare_syntax.proofs.Steps.{kinds, no_tokens, parts, left_of, moved, ok_same, none_seen}
-use Rattle.chare_syntax.proofs.Laws.{Told, Sound, Full, shorter}
-use Rattle.chare_syntax.proofs.Both.{both, both_sound, both_full, dress, dressed_sound, dressed_full, either_sound}
+use Rattle.chare_syntax.specs.Fault.{Stop}
+use Rattle.chare_syntax.specs.Readers.{Read, Reader, and_then, ◌>>=◌, done, goes, many_at, many}
+use Rattle.chare_syntax.specs.Word.{Word, kind_of, Spells}
+use Rattle.chare_syntax.proofs.Lists.{ok_same, chosen, left_of, spells_join, spells_parts, spells_none, cut, Headed, goes_head}
+use Rattle.chare_syntax.proofs.Law.{Told, Stopped, Law, told_less, bind_ok, bind_err}
+use Rattle.chare_syntax.proofs.Joined.{bind_less}
 
--- ---- one item and then others
+-- each item is spelled by its words
+abbrev pub Each : {A : Type 0} → (A → List Word → Type 0) → List A → List Word → Type 0
+Each R [] ws = ws ≡ []
+Each R (x ∷ xs) ws = (us vs : List Word) × (ws ≡ us ++ vs) × R x us × Each R xs vs
 
-abbrev pub cons : {A : Type 0} → A × List A → List A
-cons x = x.0 ∷ x.1
+pub or_left : (a b : Bool) → (a || b) ≡ false → a ≡ false
+or_left true b e = cc
+or_left false b e = refl
 
-abbrev pub then : {A : Type 0} → (List Token → Read A) → (List Token → Read (List A)) → List Token → Read (List A)
-then item others ts = item ts >>= λ x. others x.1 >>= λ xs. Ok (x.0 ∷ xs.0, xs.1)
+pub or_right : (a b : Bool) → (a || b) ≡ false → b ≡ false
+or_right true b e = cc
+or_right false b e = e
 
-module _ {A : Type 0} (item : List Token → Read A) (others : List Token → Read (List A)) where
-  pub then_same : (ts : List Token) → then item others ts ≡ (both item others ts >>= dress cons)
-  then_same ts = first (item ts)
-    where
-      second : (x : A) (r : Read (List A)) → (r >>= λ xs. Ok (x ∷ xs.0, xs.1)) ≡ ((r >>= λ xs. Ok ((x, xs.0), xs.1)) >>= dress cons)
-      second x (Ok y) = refl
-      second x (Err s) = refl
+pub goes_left : (f g : Kind → Bool) (ts : List Token) → goes (λ k. f k || g k) ts ≡ false → goes f ts ≡ false
+goes_left f g [] e = refl
+goes_left f g (t ∷ ts) e = or_left (f t.kind) (g t.kind) e
 
-      first : (r : Read A) → (r >>= λ x. others x.1 >>= λ xs. Ok (x.0 ∷ xs.0, xs.1)) ≡ ((r >>= λ x. others x.1 >>= λ xs. Ok ((x.0, xs.0), xs.1)) >>= dress cons)
-      first (Ok x) = second x.0 (others x.1)
-      first (Err s) = refl
-
-pub then_sound : {A : Type 0} {Is : A → Type 0} {spell : A → List Kind} {item : List Token → Read A} {others : List Token → Read (List A)} →
-    Sound A Is spell item → Sound (List A) (AllByRecursion Is) (flat_map spell) others → Sound (List A) (AllByRecursion Is) (flat_map spell) (then item others)
-then_sound {Is = Is} {spell = spell} {item = item} {others = others} si so =
-    dressed_sound (AllByRecursion Is) (flat_map spell) (then item others) cons (λ x. refl) (then_same item others) (both_sound si so [] tt) (λ x is. is)
-
-module _ {A : Type 0} (Is : A → Type 0) (spell : A → List Kind) where
-  empty_sound : Sound (List A) (AllByRecursion Is) (flat_map spell) (λ ts. Ok ([], ts))
-  empty_sound = record {
-    reads = λ ts r e. subst (Told (List A) (AllByRecursion Is) (flat_map spell) ts) (ok_same ([], ts) r e) ([], refl, refl, tt);
-    viable = λ ts s e. absurd cc;
-    lasts = λ seen t l l' e. ap (λ z. Ok ([], z ++ t ∷ l')) (none_seen seen (t ∷ l) e);
-  }
-
-  many_at_sound : {item : List Token → Read A} (on : Kind → Bool) → Sound A Is spell item → (n : ℕ) → Sound (List A) (AllByRecursion Is) (flat_map spell) (many_at on item n)
-  many_at_sound on si zero = empty_sound
-  many_at_sound on si (suc n) = either_sound on (then_sound si (many_at_sound on si n)) empty_sound
-
--- ---- the fuel does not matter
+pub goes_right : (f g : Kind → Bool) (ts : List Token) → goes (λ k. f k || g k) ts ≡ false → goes g ts ≡ false
+goes_right f g [] e = refl
+goes_right f g (t ∷ ts) e = or_right (f t.kind) (g t.kind) e
 
 -- an item has a token
-abbrev pub Shrinks : {A : Type 0} → (List Token → Read A) → Type 0
-Shrinks {A = A} item = (ts : List Token) (x : A × List Token) → item ts ≡ Ok x → length x.1 < length ts
+abbrev pub Shrinks : {A : Type 0} → Reader A → Type 0
+Shrinks {A = A} item = (ts : List Token) (x : A) (after : List Token) → item ts ≡ Ok (x, after) → length after < length ts
 
-module _ {A : Type 0} (on : Kind → Bool) (item : List Token → Read A) (shrinks : Shrinks item) where
-  abbrev rest_of : ℕ → A × List Token → Read (List A)
-  rest_of n x = many_at on item n x.1 >>= λ xs. Ok (x.0 ∷ xs.0, xs.1)
+pub shrinks_by : {A : Type 0} {max : ℕ} {R : A → List Word → Type 0} {on : Kind → Bool} {read : Reader A} (first : Kind → Bool) → Law max R on read → ((x : A) (ws : List Word) → R x ws → Headed first ws) → Shrinks read
+shrinks_by {A = A} {max = max} {R = R} first law heads ts x after e = let v = law.reads ts (x, after) e in by v.0 v.1 v.2 v.3 (heads x v.1 v.4)
+  where
+    by : (seen : List Token) (ws : List Word) → ts ≡ seen ++ after → Spells max ws seen → Headed first ws → length after < length ts
+    by seen [] e a h = absurd h
+    by [] (w ∷ ws) e a h = absurd a
+    by (t ∷ seen) (w ∷ ws) e a h = omega (arith, ap length e, length-append seen after)
 
-  pub many_fuel : (n m : ℕ) (ts : List Token) → length ts ≤ n → length ts ≤ m → many_at on item n ts ≡ many_at on item m ts
-  many_fuel zero zero ts h k = refl
-  many_fuel zero (suc m) [] h k = refl
-  many_fuel zero (suc m) (t ∷ ts) h k = absurd (omega arith)
-  many_fuel (suc n) zero [] h k = refl
-  many_fuel (suc n) zero (t ∷ ts) h k = absurd (omega arith)
-  many_fuel (suc n) (suc m) ts h k =
-      ap (λ r. cond (goes on ts) r (Ok ([], ts))) (same (item ts) (λ x e. ap (λ r. r >>= λ xs. Ok (x.0 ∷ xs.0, xs.1)) (many_fuel n m x.1 (omega (arith, shrinks ts x e)) (omega (arith, shrinks ts x e)))))
-    where
-      same : (r : Read A) → ((x : A × List Token) → r ≡ Ok x → rest_of n x ≡ rest_of m x) → (r >>= rest_of n) ≡ (r >>= rest_of m)
-      same (Ok x) f = f x refl
-      same (Err s) f = refl
+-- ---- the fuel doesn't matter
 
-  -- one more item, in front of what is left
-  pub many_next : (ts : List Token) (x : A) (after : List Token) → goes on ts ≡ true → item ts ≡ Ok (x, after) →
-      many on item ts ≡ (many on item after >>= λ xs. Ok (x ∷ xs.0, xs.1))
-  many_next [] x after b e = absurd cc
-  many_next (t ∷ ts) x after b e =
-      ap (λ c. cond c (item (t ∷ ts) >>= rest_of (length ts)) (Ok ([], t ∷ ts))) b
-      ∙ ap (λ r. r >>= rest_of (length ts)) e
-      ∙ ap (λ r. r >>= λ xs. Ok (x ∷ xs.0, xs.1)) (many_fuel (length ts) (length after) after (omega (arith, shrinks (t ∷ ts) (x, after) e)) (omega arith))
+module _ {A : Type 0} (on : Kind → Bool) (item : Reader A) where
+  abbrev pub one_more : ℕ → A → Reader (List A)
+  one_more n x = many_at on item n >>= λ xs. done (x ∷ xs)
 
-module _ {A : Type 0} {Is : A → Type 0} {spell : A → List Kind} {item : List Token → Read A} (on : Kind → Bool) (si : Sound A Is spell item) (solid : (x : A) → spell x ≡ [] → ⊥) where
-  shrinks : Shrinks item
-  shrinks = shorter si solid
-
-  many_lasts : (seen : List Token) (t : Token) (l l' : List Token) → left_of (many on item (seen ++ t ∷ l)) ≡ t ∷ l → many on item (seen ++ t ∷ l') ≡ moved (t ∷ l') (many on item (seen ++ t ∷ l))
-  many_lasts seen t l l' e =
-      let n = length (seen ++ t ∷ l) in
-      let m = length (seen ++ t ∷ l') in
-      let here : many on item (seen ++ t ∷ l) ≡ many_at on item (n + m) (seen ++ t ∷ l) = many_fuel on item shrinks n (n + m) (seen ++ t ∷ l) (omega arith) (omega arith) in
-      many_fuel on item shrinks m (n + m) (seen ++ t ∷ l') (omega arith) (omega arith)
-      ∙ (many_at_sound Is spell on si (n + m)).lasts seen t l l' (ap left_of (sym here) ∙ e) ∙ ap (moved (t ∷ l')) (sym here)
-
-  pub many_sound : Sound (List A) (AllByRecursion Is) (flat_map spell) (many on item)
-  many_sound = record {
-    reads = λ ts r e. (many_at_sound Is spell on si (length ts)).reads ts r e;
-    viable = λ ts s e. (many_at_sound Is spell on si (length ts)).viable ts s e;
-    lasts = many_lasts;
-  }
-
-  -- first: the tokens that begin an item; on: those with which the list goes on
-  module _ {on_item : Kind → Bool} (on_all : Kind → Bool) (fi : Full A Is spell on_item item)
-      (begins : (x : A) (seen rest : List Token) → Is x → kinds seen ≡ spell x → goes on (seen ++ rest) ≡ true)
-      (apart : (ts : List Token) → goes on ts ≡ true → goes on_item ts ≡ false)
-      (ends : (ts : List Token) → goes on_all ts ≡ false → goes on ts ≡ false)
-      (ends_item : (ts : List Token) → goes on_all ts ≡ false → goes on_item ts ≡ false) where
-    -- what stands behind an item doesn't go on it
-    pub item_free : (xs : List A) (seen rest : List Token) → AllByRecursion Is xs → kinds seen ≡ flat_map spell xs → goes on_all rest ≡ false → goes on_item (seen ++ rest) ≡ false
-    item_free [] seen rest is e g = ap (λ s. goes on_item (s ++ rest)) (no_tokens seen e) ∙ ends_item rest g
-    item_free (y ∷ ys) seen rest is e g =
-        let p = parts seen (spell y) (flat_map spell ys) e in
-        apart (seen ++ rest) (ap (λ s. goes on (s ++ rest)) p.2 ∙ ap (goes on) (append_assoc p.0 p.1 rest) ∙ begins y p.0 (p.1 ++ rest) is.0 p.3)
-
-    many_again : (xs : List A) (n : ℕ) (seen rest : List Token) → AllByRecursion Is xs → kinds seen ≡ flat_map spell xs → goes on_all rest ≡ false → length (seen ++ rest) ≤ n →
-        many_at on item n (seen ++ rest) ≡ Ok (xs, rest)
-    many_again [] zero seen rest is e g h = ap (λ s. Ok ([], s ++ rest)) (no_tokens seen e)
-    many_again [] (suc n) seen rest is e g h =
-        ap (λ s. many_at on item (suc n) (s ++ rest)) (no_tokens seen e) ∙ ap (λ c. cond c (item rest >>= rest_of on item shrinks n) (Ok ([], rest))) (ends rest g)
-    many_again (x ∷ xs) n seen rest is e g h =
-        let p = parts seen (spell x) (flat_map spell xs) e in
-        let same : seen ++ rest ≡ p.0 ++ (p.1 ++ rest) = ap (λ s. s ++ rest) p.2 ∙ append_assoc p.0 p.1 rest in
-        let read : item (p.0 ++ (p.1 ++ rest)) ≡ Ok (x, p.1 ++ rest) = fi.again x p.0 (p.1 ++ rest) is.0 p.3 (item_free xs p.1 rest is.1 p.4 g) in
-        let less : length (p.1 ++ rest) < length (p.0 ++ (p.1 ++ rest)) = shrinks (p.0 ++ (p.1 ++ rest)) (x, p.1 ++ rest) read in
-        let fits : length (p.0 ++ (p.1 ++ rest)) ≤ n = omega (arith, ap length same) in
-        ap (many_at on item n) same ∙ with_fuel n (p.0 ++ (p.1 ++ rest)) (p.1 ++ rest) x xs rest (begins x p.0 (p.1 ++ rest) is.0 p.3) read less fits
-        (λ m k. many_again xs m p.1 rest is.1 p.4 g k)
+  module _ (shrinks : Shrinks item) where
+    pub many_fuel : (n m : ℕ) (ts : List Token) → length ts ≤ n → length ts ≤ m → many_at on item n ts ≡ many_at on item m ts
+    many_fuel zero zero ts h k = refl
+    many_fuel zero (suc m) [] h k = refl
+    many_fuel zero (suc m) (t ∷ ts) h k = absurd (omega arith)
+    many_fuel (suc n) zero [] h k = refl
+    many_fuel (suc n) zero (t ∷ ts) h k = absurd (omega arith)
+    many_fuel (suc n) (suc m) ts h k =
+        ap (λ r. cond (goes on ts) r (Ok ([], ts))) (same (item ts) (λ x after e. ap (λ r. and_then r (λ xs. done (x ∷ xs))) (many_fuel n m after (omega (arith, shrinks ts x after e)) (omega (arith, shrinks ts x after e)))))
       where
-        with_fuel : (n : ℕ) (all after : List Token) (x : A) (xs : List A) (rest : List Token) → goes on all ≡ true → item all ≡ Ok (x, after) → length after < length all → length all ≤ n →
-            ((m : ℕ) → length after ≤ m → many_at on item m after ≡ Ok (xs, rest)) → many_at on item n all ≡ Ok (x ∷ xs, rest)
-        with_fuel zero all after x xs rest b read less fits f = absurd (omega arith)
-        with_fuel (suc n) all after x xs rest b read less fits f =
-            ap (λ c. cond c (item all >>= rest_of on item shrinks n) (Ok ([], all))) b ∙ ap (λ r. r >>= rest_of on item shrinks n) read ∙ ap (λ r. r >>= λ ys. Ok (x ∷ ys.0, ys.1)) (f n (omega arith))
+        same : (r : Read A) → ((x : A) (after : List Token) → r ≡ Ok (x, after) → one_more n x after ≡ one_more m x after) → and_then r (one_more n) ≡ and_then r (one_more m)
+        same (Ok x) f = f x.0 x.1 refl
+        same (Err s) f = refl
 
-    pub many_full : Full (List A) (AllByRecursion Is) (flat_map spell) on_all (many on item)
-    many_full = record { again = λ xs seen rest is e g. many_again xs (length (seen ++ rest)) seen rest is e g (omega arith) }
+    -- one more item, in front of what is left
+    pub many_next : (ts : List Token) (x : A) (after : List Token) → goes on ts ≡ true → item ts ≡ Ok (x, after) → many on item ts ≡ and_then (many on item after) (λ xs. done (x ∷ xs))
+    many_next [] x after b e = absurd cc
+    many_next (t ∷ ts) x after b e =
+        ap (λ c. cond c (and_then (item (t ∷ ts)) (one_more (length ts))) (Ok ([], t ∷ ts))) b
+        ∙ ap (λ r. and_then r (one_more (length ts))) e
+        ∙ ap (λ r. and_then r (λ xs. done (x ∷ xs))) (many_fuel (length ts) (length after) after (omega (arith, shrinks (t ∷ ts) x after e)) (omega arith))
 
--- ---- at least one
+-- ---- the law
 
--- all are so, and there is one
-abbrev pub Some : {A : Type 0} → (A → Type 0) → List A → Type 0
-Some Is xs = AllByRecursion Is xs × (0 < length xs)
+module _ {A : Type 0} {max : ℕ} {R : A → List Word → Type 0} {off : Kind → Bool} {item : Reader A} (on : Kind → Bool) (law : Law max R off item)
+    (heads : (x : A) (ws : List Word) → R x ws → Headed on ws) (apart : (k : Kind) → on k ≡ true → off k ≡ false) where
+  shrinks : Shrinks item
+  shrinks = shrinks_by on law heads
 
-module _ {A : Type 0} {Is : A → Type 0} {spell : A → List Kind} {item : List Token → Read A} (on : Kind → Bool) (si : Sound A Is spell item) (solid : (x : A) → spell x ≡ [] → ⊥) where
-  some_of : (x : A × List A) → Is x.0 × AllByRecursion Is x.1 → Some Is (cons x)
-  some_of x is = ((is.0, is.1), omega arith)
+  abbrev cons : A → List A → List A
+  cons x xs = x ∷ xs
 
-  undress : (xs : List A) → Some Is xs → (x : A × List A) × (Is x.0 × AllByRecursion Is x.1) × (cons x ≡ xs)
-  undress [] is = absurd (omega (arith, is.1))
-  undress (x ∷ xs) is = ((x, xs), (is.0.0, is.0.1), refl)
+  empty_told : (ts : List Token) (r : List A × List Token) → done [] ts ≡ Ok r → Told max (Each R) ts r
+  empty_told ts r e = let same : ([], ts) ≡ r = ok_same ([], ts) r e in ([], [], ap (λ (z : List A × List Token). z.1) same, tt, subst (λ (z : List A × List Token). Each R z.0 []) same refl)
 
-  pub some_sound : Sound (List A) (Some Is) (flat_map spell) (some on item)
-  some_sound = dressed_sound (Some Is) (flat_map spell) (some on item) cons (λ x. refl) (then_same item (many on item)) (both_sound si (many_sound on si solid) [] tt) some_of
+  reads_at : (n : ℕ) (ts : List Token) (r : List A × List Token) → many_at on item n ts ≡ Ok r → Told max (Each R) ts r
+  reads_at zero ts r e = empty_told ts r e
+  reads_at (suc n) ts r e = elim (chosen (goes on ts) (and_then (item ts) (one_more on item n)) (done [] ts) (Ok r) e) [
+    | inl c ↦
+        let x = bind_ok (item ts) (one_more on item n) r c.1 in
+        let y = bind_ok (many_at on item n x.1) (λ xs. done (cons x.0 xs)) r x.3 in
+        let v = law.reads ts (x.0, x.1) x.2 in
+        let w = reads_at n x.1 (y.0, y.1) y.2 in
+        let same : (x.0 ∷ y.0, y.1) ≡ r = ok_same (x.0 ∷ y.0, y.1) r y.3 in
+        let told : Told max (Each R) ts (x.0 ∷ y.0, y.1) = (
+          v.0 ++ w.0,
+          v.1 ++ w.1,
+          v.2 ∙ ap (λ z. v.0 ++ z) w.2 ∙ sym (append_assoc v.0 w.0 y.1),
+          spells_join max v.1 w.1 v.0 w.0 v.3 w.3,
+          (v.1, w.1, refl, v.4, w.4),
+        ) in
+        subst (λ z. Told max (Each R) ts z) same told
+    | inr c ↦ empty_told ts r c.1
+  ]
 
-  module _ {on_item : Kind → Bool} (on_all : Kind → Bool) (fi : Full A Is spell on_item item)
-      (begins : (x : A) (seen rest : List Token) → Is x → kinds seen ≡ spell x → goes on (seen ++ rest) ≡ true)
-      (apart : (ts : List Token) → goes on ts ≡ true → goes on_item ts ≡ false)
-      (ends : (ts : List Token) → goes on_all ts ≡ false → goes on ts ≡ false)
-      (ends_item : (ts : List Token) → goes on_all ts ≡ false → goes on_item ts ≡ false) where
-    pub some_full : Full (List A) (Some Is) (flat_map spell) on_all (some on item)
-    some_full = dressed_full (Some Is) (flat_map spell) (some on item) cons (λ x. refl) (then_same item (many on item))
-        (both_full fi (many_full on si solid on_all fi begins apart ends ends_item) (λ ys seen rest is e g. item_free on si solid on_all fi begins apart ends ends_item ys seen rest is e g)) undress
+  viable_at : (n : ℕ) (ts : List Token) (s : Stop) → many_at on item n ts ≡ Err s → Stopped max (Each R) ts s
+  viable_at zero ts s e = absurd cc
+  viable_at (suc n) ts s e = elim (chosen (goes on ts) (and_then (item ts) (one_more on item n)) (done [] ts) (Err s) e) [
+    | inl c ↦ elim (bind_err (item ts) (one_more on item n) s c.1) [
+      | inl h ↦ let v = law.viable ts s h in (v.0, v.1, v.2 ∷ [], v.3, v.4, v.5, (v.1 ++ v.3, [], sym (append-nil (v.1 ++ v.3)), v.6, refl), v.7)
+      | inr x ↦ elim (bind_err (many_at on item n x.1) (λ xs. done (cons x.0 xs)) s x.3) [
+        | inl h ↦
+            let v = law.reads ts (x.0, x.1) x.2 in
+            let w = viable_at n x.1 s h in (
+              v.0 ++ w.0,
+              v.1 ++ w.1,
+              x.0 ∷ w.2,
+              w.3,
+              v.2 ∙ ap (λ z. v.0 ++ z) w.4 ∙ sym (append_assoc v.0 w.0 s.left),
+              spells_join max v.1 w.1 v.0 w.0 v.3 w.5,
+              (v.1, w.1 ++ w.3, append_assoc v.1 w.1 w.3, v.4, w.6),
+              w.7,
+            )
+        | inr y ↦ absurd cc
+      ]
+    ]
+    | inr c ↦ absurd cc
+  ]
+
+  less_at : (n : ℕ) (ts : List Token) → length (left_of (many_at on item n ts)) ≤ length ts
+  less_at n ts = told_less max (Each R) {read = many_at on item n} (reads_at n) (viable_at n) ts
+
+  abbrev all : Kind → Bool
+  all k = on k || off k
+
+  -- what follows an item doesn't go on it
+  item_free : (xs : List A) (ws : List Word) (ks rest : List Token) → Each R xs ws → Spells max ws ks → goes all rest ≡ false → goes off (ks ++ rest) ≡ false
+  item_free [] [] [] rest is a g = goes_right on off rest g
+  item_free [] [] (k ∷ ks) rest is a g = absurd a
+  item_free [] (w ∷ ws) ks rest is a g = absurd cc
+  item_free (x ∷ xs) [] ks rest is a g = absurd (by is.0 is.1 is.2 (heads x is.0 is.3))
+    where
+      by : (us vs : List Word) → [] ≡ us ++ vs → Headed on us → ⊥
+      by [] vs e h = h
+      by (u ∷ us) vs e h = cc
+  item_free (x ∷ xs) (w ∷ ws) ks rest is a g = goes_head max off false w ws ks rest (apart (kind_of w) (by is.0 is.1 is.2 (heads x is.0 is.3))) a
+    where
+      by : (us vs : List Word) → w ∷ ws ≡ us ++ vs → Headed on us → on (kind_of w) ≡ true
+      by [] vs e h = absurd h
+      by (u ∷ us) vs e h = let same : w ≡ u = cc in ap (λ z. on (kind_of z)) same ∙ h
+
+  headed_goes : (us : List Word) (ks rest : List Token) → Headed on us → Spells max us ks → goes on (ks ++ rest) ≡ true
+  headed_goes [] ks rest h a = absurd h
+  headed_goes (u ∷ us) ks rest h a = goes_head max on true u us ks rest h a
+
+  again_at : (n : ℕ) (xs : List A) (ws : List Word) (ks rest : List Token) → Each R xs ws → Spells max ws ks → goes all rest ≡ false → length (ks ++ rest) ≤ n → many_at on item n (ks ++ rest) ≡ Ok (xs, rest)
+  again_at zero [] ws ks rest is a g h = ap (λ z. Ok ([], z ++ rest)) (spells_none max ks (subst (λ z. Spells max z ks) is a))
+  again_at (suc n) [] ws ks rest is a g h =
+      let none = spells_none max ks (subst (λ z. Spells max z ks) is a) in
+      ap (λ z. many_at on item (suc n) (z ++ rest)) none ∙ ap (λ c. cond c (and_then (item rest) (one_more on item n)) (done [] rest)) (goes_left on off rest g)
+  again_at n (x ∷ xs) ws ks rest is a g h =
+      let s = spells_parts max is.0 is.1 ks (subst (λ z. Spells max z ks) is.2 a) in
+      let same : ks ++ rest ≡ s.0 ++ (s.1 ++ rest) = ap (λ z. z ++ rest) s.2 ∙ append_assoc s.0 s.1 rest in
+      let read = law.again x is.0 s.0 (s.1 ++ rest) is.3 s.3 (item_free xs is.1 s.1 rest is.4 s.4 g) in
+      let first = headed_goes is.0 s.0 (s.1 ++ rest) (heads x is.0 is.3) s.3 in
+      ap (many_at on item n) same ∙ fuel n (s.0 ++ (s.1 ++ rest)) (s.1 ++ rest) first read (omega (arith, ap length same)) (λ m k. again_at m xs is.1 s.1 rest is.4 s.4 g k)
+    where
+      fuel : (n : ℕ) (ts after : List Token) → goes on ts ≡ true → item ts ≡ Ok (x, after) → length ts ≤ n → ((m : ℕ) → length after ≤ m → many_at on item m after ≡ Ok (xs, rest)) → many_at on item n ts ≡ Ok (x ∷ xs, rest)
+      fuel zero [] after b r h f = absurd cc
+      fuel zero (t ∷ ts) after b r h f = absurd (omega arith)
+      fuel (suc n) ts after b r h f =
+          ap (λ c. cond c (and_then (item ts) (one_more on item n)) (done [] ts)) b ∙ ap (λ z. and_then z (one_more on item n)) r
+          ∙ ap (λ z. and_then z (λ ys. done (cons x ys))) (f n (omega (arith, shrinks ts x after r)))
+
+  -- an item that is begun is read
+  begun : (n : ℕ) (ts rest : List Token) → goes on ts ≡ true → length ts ≤ n → length (left_of (item ts)) ≤ length rest → length (left_of (many_at on item n ts)) ≤ length rest
+  begun zero [] rest b h l = absurd cc
+  begun zero (t ∷ ts) rest b h l = absurd (omega arith)
+  begun (suc n) ts rest b h l =
+      omega (
+        arith,
+        l,
+        ap (λ c. length (left_of (cond c (and_then (item ts) (one_more on item n)) (done [] ts)))) b,
+        bind_less (item ts) (one_more on item n) (λ x us. omega (arith, bind_less (many_at on item n us) (λ xs. done (cons x xs)) (λ xs vs. omega arith), less_at n us)),
+      )
+
+  passes_at : (n : ℕ) (xs : List A) (ws more : List Word) (ks rest : List Token) → Each R xs (ws ++ more) → Spells max ws ks → length (ks ++ rest) ≤ n → length (left_of (many_at on item n (ks ++ rest))) ≤ length rest
+  passes_at n xs [] more [] rest is a h = less_at n rest
+  passes_at n xs [] more (k ∷ ks) rest is a h = absurd a
+  passes_at n [] (w ∷ ws) more ks rest is a h = absurd cc
+  passes_at n (x ∷ xs) (w ∷ ws) more ks rest is a h = elim (cut (w ∷ ws) more is.0 is.1 is.2) [
+    | inl c ↦
+        let s = spells_parts max is.0 c.0 ks (subst (λ z. Spells max z ks) c.1 a) in
+        let same : ks ++ rest ≡ s.0 ++ (s.1 ++ rest) = ap (λ z. z ++ rest) s.2 ∙ append_assoc s.0 s.1 rest in
+        omega (arith, ap (λ z. length (left_of (many_at on item n z))) same, beyond c.0 c.2 s.0 s.1 s.3 s.4 (omega (arith, ap length same)) (λ m r k2 o b l. passes_at m xs r more k2 rest o b l))
+    | inr c ↦
+        let head : Headed on ((w ∷ ws) ++ c.0) = subst (Headed on) c.1 (heads x is.0 is.3) in
+        begun n (ks ++ rest) rest (goes_head max on true w ws ks rest head a) h (law.passes x (w ∷ ws) c.0 ks rest (subst (R x) c.1 is.3) a)
+  ]
+    where
+      beyond : (r : List Word) → is.1 ≡ r ++ more → (k1 k2 : List Token) → Spells max is.0 k1 → Spells max r k2 → length (k1 ++ (k2 ++ rest)) ≤ n →
+          ((m : ℕ) (r : List Word) (k2 : List Token) → Each R xs (r ++ more) → Spells max r k2 → length (k2 ++ rest) ≤ m → length (left_of (many_at on item m (k2 ++ rest))) ≤ length rest) → length (left_of (many_at on item n (k1 ++ (k2 ++ rest)))) ≤ length rest
+      beyond [] e k1 [] a1 a2 h others =
+          begun n (k1 ++ rest) rest (headed_goes is.0 k1 rest (heads x is.0 is.3) a1) h (law.passes x is.0 [] k1 rest (subst (R x) (sym (append-nil is.0)) is.3) a1)
+      beyond [] e k1 (k ∷ k2) a1 a2 h others = absurd a2
+      beyond (u ∷ r) e k1 k2 a1 a2 h others =
+          let rest_is : Each R xs (u ∷ (r ++ more)) = subst (Each R xs) e is.4 in
+          let read = law.again x is.0 k1 (k2 ++ rest) is.3 a1 (head_free u r k2 rest_is a2) in
+          fuel n (k1 ++ (k2 ++ rest)) (k2 ++ rest) (headed_goes is.0 k1 (k2 ++ rest) (heads x is.0 is.3) a1) read h (λ m l. others m (u ∷ r) k2 rest_is a2 l)
+        where
+          head_free : (u : Word) (r : List Word) (k2 : List Token) → Each R xs (u ∷ (r ++ more)) → Spells max (u ∷ r) k2 → goes off (k2 ++ rest) ≡ false
+          head_free u r k2 others a = goes_head max off false u r k2 rest (apart (kind_of u) (by xs others)) a
+            where
+              top : (us vs : List Word) → u ∷ (r ++ more) ≡ us ++ vs → Headed on us → on (kind_of u) ≡ true
+              top [] vs e h = absurd h
+              top (v ∷ us) vs e h = let same : u ≡ v = cc in ap (λ z. on (kind_of z)) same ∙ h
+
+              by : (xs : List A) → Each R xs (u ∷ (r ++ more)) → on (kind_of u) ≡ true
+              by [] o = absurd cc
+              by (y ∷ ys) o = top o.0 o.1 o.2 (heads y o.0 o.3)
+
+          fuel : (n : ℕ) (ts after : List Token) → goes on ts ≡ true → item ts ≡ Ok (x, after) → length ts ≤ n → ((m : ℕ) → length after ≤ m → length (left_of (many_at on item m after)) ≤ length rest) →
+              length (left_of (many_at on item n ts)) ≤ length rest
+          fuel zero [] after b r h f = absurd cc
+          fuel zero (t ∷ ts) after b r h f = absurd (omega arith)
+          fuel (suc n) ts after b r h f =
+              omega (
+                arith,
+                ap (λ c. length (left_of (cond c (and_then (item ts) (one_more on item n)) (done [] ts)))) b,
+                ap (λ z. length (left_of (and_then z (one_more on item n)))) r,
+                bind_less (many_at on item n after) (λ ys. done (cons x ys)) (λ ys vs. omega arith),
+                f n (omega (arith, shrinks ts x after r)),
+              )
+
+  pub many_law : Law max (Each R) (λ k. on k || off k) (many on item)
+  many_law = record {
+    reads = λ ts r e. reads_at (length ts) ts r e;
+    viable = λ ts s e. viable_at (length ts) ts s e;
+    again = λ xs ws ks rest is a g. again_at (length (ks ++ rest)) xs ws ks rest is a g (omega arith);
+    passes = λ xs ws more ks rest is a. passes_at (length (ks ++ rest)) xs ws more ks rest is a (omega arith);
+  }

@@ -1,42 +1,59 @@
 -- Which tokens are a job, and the fault of those that are none.
-use Rattle.std.specs.Prelude.{◌≡◌, ℕ, true, ◌<◌, ◌≤◌, List, [], ◌∷◌, ◌++◌, map, length}
-use Rattle.std.specs.List.{AllByRecursion}
+use Rattle.std.specs.Prelude.{◌≡◌, ℕ, Bool, nat_le, true, ◌<◌, ◌≤◌, List, [], ◌∷◌, ◌++◌, length}
+use Rattle.std.specs.List.{AllByRecursion, list_all}
 use Rattle.chare_syntax.specs.declared.fault.ParseFault.{ParseFault}
 use Rattle.chare_syntax.specs.declared.fault.ParseFault.TheVariants as faults
 use Rattle.chare_syntax.specs.declared.token.Kind.{Kind}
 use Rattle.chare_syntax.specs.declared.token.Kind.TheVariants as kinds
 use Rattle.chare_syntax.specs.declared.token.Token.{Token}
+use Rattle.chare_syntax.specs.declared.tree.ArrayDecl.{ArrayDecl}
 use Rattle.chare_syntax.specs.declared.tree.Job.{Job}
+use Rattle.chare_syntax.specs.declared.tree.StepBody.{StepBody}
+use Rattle.chare_syntax.specs.declared.tree.StepBody.TheVariants as bodies
 use Rattle.chare_syntax.specs.declared.tree.StepDecl.{StepDecl}
-use Rattle.chare_syntax.specs.declared.tree.StepDecl.TheVariants as steps
-use Rattle.chare_syntax.specs.declared.tree.StmtDecl.{StmtDecl}
-use Rattle.chare_syntax.specs.declared.tree.StmtDecl.TheVariants as stmts
+use Rattle.chare_syntax.specs.Word.{Word, level_of, Is}
 use Rattle.chare_syntax.specs.Spelling.{job_spelling}
-use Rattle.chare_syntax.specs.Depth.{job_depth}
 use Rattle.chare_syntax.specs.Tokens.{is_last}
 
--- a `send` has a value
-abbrev pub StmtFilled : StmtDecl → Type 0
-StmtFilled (stmts.Assign target value) = Unit {0}
-StmtFilled (stmts.Send send) = 0 < length send.values
+-- ---- the lists of a job have their items
 
--- a `when` has a name, and each `send` a value
+-- an overlap has two parts
+abbrev pub BodyFilled : StepBody → Type 0
+BodyFilled (bodies.Overlap at parts) = 1 < length parts
+BodyFilled _ = Unit {0}
+
 abbrev pub StepFilled : StepDecl → Type 0
-StepFilled (steps.Block block) = AllByRecursion StmtFilled block
-StepFilled (steps.When w) = (0 < length w.names) × AllByRecursion StmtFilled w.block
+StepFilled s = BodyFilled s.body
 
--- the tokens are those that a job is spelled by, and the end; so many levels of nesting at most are open
-pub record Spells (levels : ℕ) (tokens : List Token) (job : Job) : Type 0 where
-  pub spelled : map (λ t. t.kind) tokens ≡ job_spelling job ++ kinds.End ∷ []
-  pub shallow : job_depth job ≤ levels
-  pub some_states : 0 < length job.array.states
-  pub some_steps : 0 < length job.array.steps
-  pub filled_steps : AllByRecursion StepFilled job.array.steps
-  pub some_answers : 0 < length job.answers
+pub record ArrayFilled (a : ArrayDecl) : Type 0 where
+  pub some_states : 0 < length a.states
+  pub some_steps : 0 < length a.steps
+  pub filled_steps : AllByRecursion StepFilled a.steps
 
--- the tokens are those of this job
-abbrev pub IsJob : List Token → Job → Type 0
-IsJob = Spells 32
+pub record JobFilled (j : Job) : Type 0 where
+  pub some_arrays : 0 < length j.arrays
+  pub filled_arrays : AllByRecursion ArrayFilled j.arrays
+  pub some_answers : 0 < length j.answers
+
+-- ---- tokens that words say
+
+-- the tokens are those of the words, which open no level above the last one, and then the end
+abbrev pub Whole : ℕ → List Word → List Token → Type 0
+Whole last [] [] = ⊥
+Whole last [] (t ∷ ts) = (t.kind ≡ kinds.End) × (ts ≡ [])
+Whole last (w ∷ ws) [] = ⊥
+Whole last (w ∷ ws) (t ∷ ts) = Is w t × (level_of w ≤ last) × Whole last ws ts
+
+-- the tokens are the first of such ones
+abbrev pub Front : ℕ → List Word → List Token → Type 0
+Front last ws [] = Unit {0}
+Front last [] (t ∷ ts) = (t.kind ≡ kinds.End) × (ts ≡ [])
+Front last (w ∷ ws) (t ∷ ts) = Is w t × (level_of w ≤ last) × Front last ws ts
+
+-- the tokens are those of this job, and 32 levels at most are open
+pub record IsJob (tokens : List Token) (job : Job) : Type 0 where
+  pub spelled : Whole 32 (job_spelling job 0) tokens
+  pub filled : JobFilled job
 
 -- the tokens are those of no job
 abbrev pub NoJob : List Token → Type 0
@@ -46,17 +63,21 @@ NoJob tokens = (job : Job) → IsJob tokens job → ⊥
 abbrev pub OneJob : Type 0
 OneJob = (tokens : List Token) (a b : Job) → IsJob tokens a → IsJob tokens b → a ≡ b
 
+-- a tree opens no level above the last one
+unfoldable pub is_shallow : ℕ → Job → Bool
+is_shallow last job = list_all (λ w. nat_le (level_of w) last) (job_spelling job 0)
+
 -- ---- faults
 
 -- the tokens end as those of a text do
 abbrev pub Ended : List Token → Type 0
 Ended tokens = (front : List Token) × (z : Token) × (tokens ≡ front ++ z ∷ []) × (is_last z.kind ≡ true)
 
--- some job of so many levels begins with these tokens
+-- some job, of whatever depth, begins with these tokens, of which none opens a level above the last one
 abbrev pub Begins : ℕ → List Token → Type 0
-Begins levels seen = (more : List Token) × (job : Job) × Spells levels (seen ++ more) job
+Begins last seen = (job : Job) × JobFilled job × Front last (job_spelling job 0) seen
 
--- the first token with which no job goes on is at this place; Told is what its kind and its front show
+-- the first token with which no job goes on, or that opens a level too many, is at this place; Told is what its kind and its front show
 pub record FirstAt (tokens : List Token) (at : ℕ) (Told : List Token → Token → Type 0) : Type 0 where
   pub seen : List Token
   pub token : Token
@@ -67,9 +88,9 @@ pub record FirstAt (tokens : List Token) (at : ℕ) (Told : List Token → Token
   pub ends : Begins 32 (seen ++ token ∷ []) → ⊥
   pub told : Told seen token
 
--- no job goes on with the token, of however many levels
+-- no job goes on with the token, whatever levels it opens
 abbrev pub Never : List Token → Token → Type 0
-Never seen token = (levels : ℕ) → Begins levels (seen ++ token ∷ []) → ⊥
+Never seen token = (last : ℕ) → Begins last (seen ++ token ∷ []) → ⊥
 
 -- neither a byte at which no token begins nor a number too large
 abbrev pub Plain : Kind → Type 0
@@ -84,4 +105,4 @@ Faulty tokens (faults.TooLong at) = ⊥
 Faulty tokens (faults.NotToken at) = FirstAt tokens at (λ seen token. (token.kind ≡ kinds.Bad) × Never seen token)
 Faulty tokens (faults.NumberTooLarge at) = FirstAt tokens at (λ seen token. (token.kind ≡ kinds.TooLarge) × Never seen token)
 Faulty tokens (faults.Unexpected at) = FirstAt tokens at (λ seen token. Plain token.kind × Never seen token)
-Faulty tokens (faults.TooDeep at) = FirstAt tokens at (λ seen token. (levels : ℕ) × Begins levels (seen ++ token ∷ []))
+Faulty tokens (faults.TooDeep at) = FirstAt tokens at (λ seen token. (last : ℕ) × Begins last (seen ++ token ∷ []))

@@ -44,11 +44,6 @@ why_fault Deep left = faults.TooDeep (place left)
 abbrev pub fault_of : Stop → ParseFault
 fault_of s = why_fault s.why s.left
 
-infixl 10 ◌>>=◌
-abbrev pub ◌>>=◌ : {A B : Type 0} → Result A Stop → (A → Result B Stop) → Result B Stop
-(Ok x) >>= f = f x
-(Err e) >>= f = Err e
-
 abbrev pub as_fault : {A : Type 0} → Result A Stop → Result A ParseFault
 as_fault (Ok x) = Ok x
 as_fault (Err s) = Err (fault_of s)

@@ -1,9 +1,5 @@
--- Reading tokens from the left: the shape of the reader, of which its proof speaks.
-use Rattle.std.specs.Prelude.{ℕ, zero, suc, Bool, true, false, if◌then◌else◌, ◌==◌, ◌||◌, List, [], ◌∷◌, length, Option, Some, None, Result, Ok, Err}
-use Rattle.chare_syntax.specs.declared.tree.AddOp.{AddOp}
-use Rattle.chare_syntax.specs.declared.tree.AddOp.TheVariants as adds
-use Rattle.chare_syntax.specs.declared.tree.MulOp.{MulOp}
-use Rattle.chare_syntax.specs.declared.tree.MulOp.TheVariants as muls
+-- Reading tokens from the left: the shape of the reader, of which its proof speaks. The argument n is how many levels may still be opened.
+use Rattle.std.specs.Prelude.{ℕ, zero, suc, Bool, true, false, if◌then◌else◌, ◌||◌, List, [], ◌∷◌, Option, Some, None, Ok, Err}
 use Rattle.chare_syntax.specs.declared.token.Kind.{Kind}
 use Rattle.chare_syntax.specs.declared.token.Kind.TheVariants as kinds
 use Rattle.chare_syntax.specs.declared.token.Mark.{Mark}
@@ -11,413 +7,595 @@ use Rattle.chare_syntax.specs.declared.token.Mark.TheVariants as marks
 use Rattle.chare_syntax.specs.declared.token.Num.{Num}
 use Rattle.chare_syntax.specs.declared.token.Span.{Span}
 use Rattle.chare_syntax.specs.declared.token.Token.{Token}
+use Rattle.chare_syntax.specs.declared.tree.AddOp.{AddOp}
+use Rattle.chare_syntax.specs.declared.tree.AddOp.TheVariants as adds
+use Rattle.chare_syntax.specs.declared.tree.MulOp.{MulOp}
+use Rattle.chare_syntax.specs.declared.tree.MulOp.TheVariants as muls
+use Rattle.chare_syntax.specs.declared.tree.CompareOp.{CompareOp}
+use Rattle.chare_syntax.specs.declared.tree.CompareOp.TheVariants as compares
+use Rattle.chare_syntax.specs.declared.tree.Here.{Here}
+use Rattle.chare_syntax.specs.declared.tree.Here.TheVariants as heres
+use Rattle.chare_syntax.specs.declared.tree.Choice.{Choice}
+use Rattle.chare_syntax.specs.declared.tree.Choice.TheVariants as choices
+use Rattle.chare_syntax.specs.declared.tree.How.{How}
+use Rattle.chare_syntax.specs.declared.tree.How.TheVariants as hows
 use Rattle.chare_syntax.specs.declared.tree.AnswerDecl.{AnswerDecl}
 use Rattle.chare_syntax.specs.declared.tree.AnswerDecl.TheVariants as answers
-use Rattle.chare_syntax.specs.declared.tree.ArrayDecl.{ArrayDecl}
-use Rattle.chare_syntax.specs.declared.tree.Atom.{Atom}
-use Rattle.chare_syntax.specs.declared.tree.Atom.TheVariants as atoms
 use Rattle.chare_syntax.specs.declared.tree.EdgeDecl.{EdgeDecl}
 use Rattle.chare_syntax.specs.declared.tree.EdgeDecl.TheVariants as edges
+use Rattle.chare_syntax.specs.declared.tree.MemberDecl.{MemberDecl}
+use Rattle.chare_syntax.specs.declared.tree.MemberDecl.TheVariants as members
+use Rattle.chare_syntax.specs.declared.tree.StepBody.{StepBody}
+use Rattle.chare_syntax.specs.declared.tree.StepBody.TheVariants as bodies
+use Rattle.chare_syntax.specs.declared.tree.ArrayDecl.{ArrayDecl}
+use Rattle.chare_syntax.specs.declared.tree.Coordinates.{Coordinates}
 use Rattle.chare_syntax.specs.declared.tree.EntryDecl.{EntryDecl}
 use Rattle.chare_syntax.specs.declared.tree.Job.{Job}
-use Rattle.chare_syntax.specs.declared.tree.Product.{Product, roll-Product}
-use Rattle.chare_syntax.specs.declared.tree.ProductTerm.{ProductTerm, roll-ProductTerm}
+use Rattle.chare_syntax.specs.declared.tree.Names.{Names}
+use Rattle.chare_syntax.specs.declared.tree.Offset.{Offset}
+use Rattle.chare_syntax.specs.declared.tree.PartDecl.{PartDecl}
+use Rattle.chare_syntax.specs.declared.tree.ReduceDecl.{ReduceDecl}
 use Rattle.chare_syntax.specs.declared.tree.SignedNum.{SignedNum}
 use Rattle.chare_syntax.specs.declared.tree.StateDecl.{StateDecl}
 use Rattle.chare_syntax.specs.declared.tree.StepDecl.{StepDecl}
-use Rattle.chare_syntax.specs.declared.tree.StepDecl.TheVariants as steps
-use Rattle.chare_syntax.specs.declared.tree.StmtDecl.{StmtDecl}
-use Rattle.chare_syntax.specs.declared.tree.StmtDecl.TheVariants as stmts
+use Rattle.chare_syntax.specs.declared.tree.Values.{Values}
+use Rattle.chare_syntax.specs.declared.tree.Conj.{Conj, roll-Conj}
+use Rattle.chare_syntax.specs.declared.tree.Expr.{Expr, roll-Expr}
+use Rattle.chare_syntax.specs.declared.tree.Product.{Product, roll-Product}
+use Rattle.chare_syntax.specs.declared.tree.ProductTerm.{ProductTerm, roll-ProductTerm}
 use Rattle.chare_syntax.specs.declared.tree.Sum.{Sum, roll-Sum}
 use Rattle.chare_syntax.specs.declared.tree.SumTerm.{SumTerm, roll-SumTerm}
+use Rattle.chare_syntax.specs.declared.tree.Block.{Block, roll-Block}
+use Rattle.chare_syntax.specs.declared.tree.Atom.{Atom}
+use Rattle.chare_syntax.specs.declared.tree.Atom.TheVariants as atoms
+use Rattle.chare_syntax.specs.declared.tree.Test.{Test}
+use Rattle.chare_syntax.specs.declared.tree.Test.TheVariants as tests
 use Rattle.chare_syntax.specs.declared.tree.Unary.{Unary}
 use Rattle.chare_syntax.specs.declared.tree.Unary.TheVariants as unaries
-use Rattle.chare_syntax.specs.Mark.{number_of}
-use Rattle.chare_syntax.specs.Fault.{Stop, wrong, deep, ◌>>=◌}
-
--- a value and the tokens behind it, or where reading stopped
-abbrev pub Read : Type 0 → Type 0
-Read A = Result (A × List Token) Stop
+use Rattle.chare_syntax.specs.declared.tree.StmtDecl.{StmtDecl}
+use Rattle.chare_syntax.specs.declared.tree.StmtDecl.TheVariants as stmts
+use Rattle.chare_syntax.specs.Fault.{wrong}
+use Rattle.chare_syntax.specs.Readers.{Reader, ◌>>=◌, done, one, is_mark, mark_at, open_at, either, many, optional}
 
 -- ---- one token
-
--- what a token of a kind says, where it may stand
-abbrev pub taken : {A : Type 0} → Option A → Token → List Token → Read A
-taken (Some x) t ts = Ok (x, ts)
-taken None t ts = Err (wrong (t ∷ ts))
-
-abbrev pub one : {A : Type 0} → (Kind → Option A) → List Token → Read A
-one f [] = Err (wrong [])
-one f (t ∷ ts) = taken (f t.kind) t ts
-
--- the first token passes a test
-abbrev pub goes : (Kind → Bool) → List Token → Bool
-goes on [] = false
-goes on (t ∷ ts) = on t.kind
-
-abbrev pub is_mark : Mark → Kind → Bool
-is_mark mark (kinds.Mark found) = number_of found == number_of mark
-is_mark mark _ = false
-
-abbrev pub name_of : Kind → Option Span
-name_of (kinds.Name span) = Some span
-name_of _ = None
-
-abbrev pub num_of : Kind → Option Num
-num_of (kinds.Number n) = Some n
-num_of _ = None
-
-abbrev pub mark_of : Mark → Kind → Option (Unit {0})
-mark_of mark k = if is_mark mark k then Some tt else None
-
-abbrev pub end_of : Kind → Option (Unit {0})
-end_of kinds.End = Some tt
-end_of _ = None
-
-abbrev pub add_of : Kind → Option AddOp
-add_of k = if is_mark marks.Plus k then Some adds.Plus else (if is_mark marks.Minus k then Some adds.Minus else None)
-
-abbrev pub mul_of : Kind → Option MulOp
-mul_of k = if is_mark marks.Times k then Some muls.Times else None
-
--- an atom of one token
-abbrev pub leaf_of : Kind → Option Atom
-leaf_of (kinds.Number n) = Some (atoms.Number n)
-leaf_of (kinds.Name span) = Some (atoms.Name span)
-leaf_of k = if is_mark marks.Index k then Some atoms.Index else None
 
 abbrev pub told : {A : Type 0} → Option A → Bool
 told (Some x) = true
 told None = false
 
-abbrev pub is_add : Kind → Bool
-is_add k = told (add_of k)
+abbrev pub name_in : Kind → Option Span
+name_in (kinds.Name span) = Some span
+name_in _ = None
 
-abbrev pub is_mul : Kind → Bool
-is_mul k = told (mul_of k)
+abbrev pub num_in : Kind → Option Num
+num_in (kinds.Number n) = Some n
+num_in _ = None
+
+abbrev pub add_in : Kind → Option AddOp
+add_in k = if is_mark marks.Plus k then Some adds.Plus else (if is_mark marks.Minus k then Some adds.Minus else None)
+
+abbrev pub mul_in : Kind → Option MulOp
+mul_in k = if is_mark marks.Times k then Some muls.Times else (if is_mark marks.Divide k then Some muls.Divide else (if is_mark marks.Remainder k then Some muls.Remainder else None))
+
+abbrev pub compare_in : Kind → Option CompareOp
+compare_in k =
+    if is_mark marks.Equal k then Some compares.Equal
+    else (if is_mark marks.NotEqual k then Some compares.NotEqual
+    else (if is_mark marks.Less k then Some compares.Less
+    else (if is_mark marks.LessEqual k then Some compares.LessEqual
+    else (if is_mark marks.Greater k then Some compares.Greater
+    else (if is_mark marks.GreaterEqual k then Some compares.GreaterEqual
+    else None)))))
+
+abbrev pub here_in : Kind → Option Here
+here_in k =
+    if is_mark marks.Index k then Some heres.Index
+    else (if is_mark marks.Row k then Some heres.Row
+    else (if is_mark marks.Col k then Some heres.Col
+    else (if is_mark marks.Cell k then Some heres.Cell
+    else (if is_mark marks.Iter k then Some heres.Iter
+    else None))))
+
+abbrev pub choice_in : Kind → Option Choice
+choice_in k = if is_mark marks.Min k then Some choices.Min else (if is_mark marks.Max k then Some choices.Max else None)
+
+abbrev pub how_in : Kind → Option How
+how_in k = if is_mark marks.Sum k then Some hows.Sum else (if is_mark marks.Min k then Some hows.Min else (if is_mark marks.Max k then Some hows.Max else None))
+
+-- with the token's place
+abbrev pub at_place : {A : Type 0} → Option A → ℕ → Option (ℕ × A)
+at_place (Some x) at = Some (at, x)
+at_place None at = None
+
+unfoldable pub name_at : Reader Span
+name_at = one (λ t. name_in t.kind)
+
+unfoldable pub num_at : Reader Num
+num_at = one (λ t. num_in t.kind)
+
+unfoldable pub add_at : Reader (ℕ × AddOp)
+add_at = one (λ t. at_place (add_in t.kind) t.at)
+
+unfoldable pub mul_at : Reader (ℕ × MulOp)
+mul_at = one (λ t. at_place (mul_in t.kind) t.at)
+
+unfoldable pub compare_at : Reader CompareOp
+compare_at = one (λ t. compare_in t.kind)
+
+unfoldable pub here_at : Reader (ℕ × Here)
+here_at = one (λ t. at_place (here_in t.kind) t.at)
+
+unfoldable pub choice_at : Reader (ℕ × Choice)
+choice_at = one (λ t. at_place (choice_in t.kind) t.at)
+
+unfoldable pub how_at : Reader How
+how_at = one (λ t. how_in t.kind)
 
 abbrev pub is_name : Kind → Bool
-is_name k = told (name_of k)
+is_name k = told (name_in k)
 
--- a statement begins so
-abbrev pub is_stmt : Kind → Bool
-is_stmt k = is_name k || is_mark marks.Send k
+abbrev pub is_num : Kind → Bool
+is_num k = told (num_in k)
 
-unfoldable pub name_at : List Token → Read Span
-name_at = one name_of
+abbrev pub is_add : Kind → Bool
+is_add k = told (add_in k)
 
-unfoldable pub num_at : List Token → Read Num
-num_at = one num_of
+abbrev pub is_mul : Kind → Bool
+is_mul k = told (mul_in k)
 
-unfoldable pub mark_at : Mark → List Token → Read (Unit {0})
-mark_at mark = one (mark_of mark)
+abbrev pub is_compare : Kind → Bool
+is_compare k = told (compare_in k)
 
-unfoldable pub add_at : List Token → Read AddOp
-add_at = one add_of
-
-unfoldable pub mul_at : List Token → Read MulOp
-mul_at = one mul_of
-
-unfoldable pub leaf_at : List Token → Read Atom
-leaf_at = one leaf_of
+abbrev pub is_choice : Kind → Bool
+is_choice k = told (choice_in k)
 
 -- ---- several
 
--- items while the next token begins one
-abbrev pub many_at : {A : Type 0} → (Kind → Bool) → (List Token → Read A) → ℕ → List Token → Read (List A)
-many_at on item zero ts = Ok ([], ts)
-many_at on item (suc n) ts =
-    if goes on ts then (item ts >>= λ x. many_at on item n x.1 >>= λ xs. Ok (x.0 ∷ xs.0, xs.1)) else Ok ([], ts)
-
-abbrev pub many : {A : Type 0} → (Kind → Bool) → (List Token → Read A) → List Token → Read (List A)
-many on item ts = many_at on item (length ts) ts
-
 -- at least one
-abbrev pub some : {A : Type 0} → (Kind → Bool) → (List Token → Read A) → List Token → Read (List A)
-some on item ts = item ts >>= λ x. many on item x.1 >>= λ xs. Ok (x.0 ∷ xs.0, xs.1)
+abbrev pub some : {A : Type 0} → (Kind → Bool) → Reader A → Reader (List A)
+some on item = do
+  first ← item
+  others ← many on item
+  done (first ∷ others)
 
 -- an item behind a mark
-abbrev pub behind : {A : Type 0} → Mark → (List Token → Read A) → List Token → Read A
-behind mark item ts = do
-  sign ← mark_at mark ts
-  x ← item sign.1
-  Ok (x.0, x.1)
-
--- at least one, with a mark between them
-abbrev pub listed : {A : Type 0} → Mark → (List Token → Read A) → List Token → Read (List A)
-listed mark item ts = item ts >>= λ x. many (is_mark mark) (behind mark item) x.1 >>= λ xs. Ok (x.0 ∷ xs.0, xs.1)
-
--- one if the next token begins one, else none
-abbrev pub optional : {A : Type 0} → (Kind → Bool) → (List Token → Read A) → List Token → Read (Option A)
-optional on item ts = if goes on ts then (item ts >>= λ x. Ok (Some x.0, x.1)) else Ok (None, ts)
-
--- no level may be opened
-abbrev pub refuse : {A : Type 0} → List Token → Read A
-refuse ts = Err (deep ts)
+abbrev pub behind : {A : Type 0} → Mark → Reader A → Reader A
+behind m item = mark_at m >>= λ at. item
 
 -- ---- expressions
 
-abbrev pub product_term_with : (List Token → Read Unary) → List Token → Read ProductTerm
-product_term_with unary ts = do
-  op ← mul_at ts
-  value ← unary op.1
-  Ok (roll-ProductTerm (record { op = op.0; value = value.0 }), value.1)
+-- the readers of operands that stand a level deeper
+pub record Deeper : Type 0 where
+  pub unary : Reader Unary
+  pub test : Reader Test
 
-abbrev pub product_with : (List Token → Read Unary) → List Token → Read Product
-product_with unary ts = do
-  first ← unary ts
-  others ← many is_mul (product_term_with unary) first.1
-  Ok (roll-Product (record { first = first.0; others = others.0 }), others.1)
+unfoldable pub product_term_with : Reader Unary → Reader ProductTerm
+product_term_with unary = do
+  op ← mul_at
+  value ← unary
+  done (roll-ProductTerm (record { at = op.0; op = op.1; value = value }))
 
-abbrev pub sum_term_with : (List Token → Read Product) → List Token → Read SumTerm
-sum_term_with product ts = do
-  op ← add_at ts
-  value ← product op.1
-  Ok (roll-SumTerm (record { op = op.0; value = value.0 }), value.1)
+unfoldable pub product_with : Reader Unary → Reader Product
+product_with unary = do
+  first ← unary
+  others ← many is_mul (product_term_with unary)
+  done (roll-Product (record { first = first; others = others }))
 
-abbrev pub sum_with : (List Token → Read Product) → List Token → Read Sum
-sum_with product ts = do
-  first ← product ts
-  others ← many is_add (sum_term_with product) first.1
-  Ok (roll-Sum (record { first = first.0; others = others.0 }), others.1)
+unfoldable pub sum_term_with : Reader Unary → Reader SumTerm
+sum_term_with unary = do
+  op ← add_at
+  value ← product_with unary
+  done (roll-SumTerm (record { at = op.0; op = op.1; value = value }))
 
-abbrev pub group_with : (List Token → Read Sum) → List Token → Read Atom
-group_with sum ts = do
-  opened ← mark_at marks.OpenParen ts
-  inner ← sum opened.1
-  closed ← mark_at marks.CloseParen inner.1
-  Ok (atoms.Group inner.0, closed.1)
+unfoldable pub sum_with : Reader Unary → Reader Sum
+sum_with unary = do
+  first ← product_with unary
+  others ← many is_add (sum_term_with unary)
+  done (roll-Sum (record { first = first; others = others }))
 
-abbrev pub minus_with : (List Token → Read Unary) → List Token → Read Unary
-minus_with unary ts = do
-  sign ← mark_at marks.Minus ts
-  operand ← unary sign.1
-  Ok (unaries.Minus operand.0, operand.1)
+unfoldable pub comparison_with : Reader Unary → Reader (CompareOp × Sum)
+comparison_with unary = do
+  op ← compare_at
+  right ← sum_with unary
+  done (op, right)
 
-abbrev pub atom_with : (List Token → Read Atom) → List Token → Read Atom
-atom_with group ts = if goes (is_mark marks.OpenParen) ts then group ts else leaf_at ts
+-- a sum, and what it is compared with
+abbrev pub test_of : Sum → Option (CompareOp × Sum) → Test
+test_of left None = tests.Alone left
+test_of left (Some more) = tests.Compare left more.0 more.1
 
-abbrev pub unary_with : (List Token → Read Unary) → (List Token → Read Atom) → List Token → Read Unary
-unary_with minus atom ts =
-    if goes (is_mark marks.Minus) ts then minus ts else (atom ts >>= λ a. Ok (unaries.Atom a.0, a.1))
+unfoldable pub compared_with : Reader Unary → Reader Test
+compared_with unary = do
+  left ← sum_with unary
+  more ← optional is_compare (comparison_with unary)
+  done (test_of left more)
 
--- a unary, where so many levels may still be opened
-abbrev pub level : ℕ → List Token → Read Unary
-level zero = unary_with refuse (atom_with refuse)
-level (suc n) = unary_with (minus_with (level n)) (atom_with (group_with (sum_with (product_with (level n)))))
+unfoldable pub conj_with : Reader Test → Reader Conj
+conj_with test = do
+  first ← test
+  others ← many (is_mark marks.And) (behind marks.And test)
+  done (roll-Conj (record { first = first; others = others }))
 
-unfoldable pub group_at : ℕ → List Token → Read Atom
-group_at n = group_with (sum_with (product_with (level n)))
+unfoldable pub expr_with : Reader Test → Reader Expr
+expr_with test = do
+  first ← conj_with test
+  others ← many (is_mark marks.Or) (behind marks.Or (conj_with test))
+  done (roll-Expr (record { first = first; others = others }))
 
-unfoldable pub atom_at : ℕ → List Token → Read Atom
-atom_at zero = atom_with refuse
-atom_at (suc n) = atom_with (group_with (sum_with (product_with (level n))))
+unfoldable pub group_with : ℕ → Deeper → Reader Atom
+group_with n deeper = do
+  opened ← open_at n marks.OpenParen
+  inner ← expr_with deeper.test
+  close ← mark_at marks.CloseParen
+  done (atoms.Group opened.at inner)
 
-unfoldable pub unary_at : ℕ → List Token → Read Unary
-unary_at = level
+unfoldable pub choice_with : ℕ → Deeper → Reader Atom
+choice_with n deeper = do
+  choice ← choice_at
+  opened ← open_at n marks.OpenParen
+  first ← expr_with deeper.test
+  comma ← mark_at marks.Comma
+  second ← expr_with deeper.test
+  close ← mark_at marks.CloseParen
+  done (atoms.Choice choice.0 choice.1 first second)
 
-unfoldable pub product_term_at : ℕ → List Token → Read ProductTerm
-product_term_at n = product_term_with (level n)
+unfoldable pub index_with : ℕ → Deeper → Reader Expr
+index_with n deeper = do
+  opened ← open_at n marks.OpenBracket
+  index ← expr_with deeper.test
+  close ← mark_at marks.CloseBracket
+  done index
 
-unfoldable pub product_terms_at : ℕ → List Token → Read (List ProductTerm)
-product_terms_at n = many is_mul (product_term_with (level n))
+abbrev pub named_of : Span → Option Expr → Atom
+named_of name None = atoms.Name name
+named_of name (Some index) = atoms.Cell name index
 
-unfoldable pub product_at : ℕ → List Token → Read Product
-product_at n = product_with (level n)
+unfoldable pub named_with : ℕ → Deeper → Reader Atom
+named_with n deeper = do
+  name ← name_at
+  index ← optional (is_mark marks.OpenBracket) (index_with n deeper)
+  done (named_of name index)
 
-unfoldable pub sum_term_at : ℕ → List Token → Read SumTerm
-sum_term_at n = sum_term_with (product_with (level n))
+unfoldable pub leaf_at : Reader Atom
+leaf_at = either is_num (num_at >>= λ n. done (atoms.Number n)) (here_at >>= λ here. done (atoms.Here here.0 here.1))
 
-unfoldable pub sum_terms_at : ℕ → List Token → Read (List SumTerm)
-sum_terms_at n = many is_add (sum_term_with (product_with (level n)))
+unfoldable pub atom_with : ℕ → Deeper → Reader Atom
+atom_with n deeper = either (is_mark marks.OpenParen) (group_with n deeper) (either is_choice (choice_with n deeper) (either is_name (named_with n deeper) leaf_at))
 
-unfoldable pub sum_at : ℕ → List Token → Read Sum
-sum_at n = sum_with (product_with (level n))
+unfoldable pub minus_with : ℕ → Deeper → Reader Unary
+minus_with n deeper = do
+  opened ← open_at n marks.Minus
+  operand ← deeper.unary
+  done (unaries.Minus opened.at operand)
+
+unfoldable pub unary_with : ℕ → Deeper → Reader Unary
+unary_with n deeper = either (is_mark marks.Minus) (minus_with n deeper) (atom_with n deeper >>= λ a. done (unaries.Atom a))
+
+unfoldable pub not_with : ℕ → Deeper → Reader Test
+not_with n deeper = do
+  opened ← open_at n marks.Not
+  operand ← deeper.test
+  done (tests.Not opened.at operand)
+
+unfoldable pub test_with : ℕ → Deeper → Reader Test
+test_with n deeper = either (is_mark marks.Not) (not_with n deeper) (compared_with (unary_with n deeper))
+
+-- where no level may be opened, no operand is deeper
+abbrev pub none_deeper : {A : Type 0} → Reader A
+none_deeper = λ ts. Err (wrong ts)
+
+abbrev pub deeper : ℕ → Deeper
+deeper zero = record { unary = none_deeper; test = none_deeper }
+deeper (suc n) = record { unary = unary_with n (deeper n); test = test_with n (deeper n) }
+
+abbrev pub unary_at : ℕ → Reader Unary
+unary_at n = unary_with n (deeper n)
+
+abbrev pub test_at : ℕ → Reader Test
+test_at n = test_with n (deeper n)
+
+abbrev pub expr_at : ℕ → Reader Expr
+expr_at n = expr_with (test_at n)
+
+-- ---- numbers
+
+unfoldable pub minus_at : Reader (Option ℕ)
+minus_at = optional (is_mark marks.Minus) (mark_at marks.Minus)
+
+unfoldable pub signed_at : Reader SignedNum
+signed_at = do
+  minus ← minus_at
+  number ← num_at
+  done (record { minus = minus; number = number })
+
+unfoldable pub next_num_at : Reader (Option Num)
+next_num_at = optional (is_mark marks.Comma) (behind marks.Comma num_at)
+
+unfoldable pub coordinates_at : ℕ → Reader Coordinates
+coordinates_at n = do
+  opened ← open_at n marks.OpenBracket
+  first ← num_at
+  second ← next_num_at
+  close ← mark_at marks.CloseBracket
+  done (record { first = first; second = second })
+
+unfoldable pub next_signed_at : Reader (Option SignedNum)
+next_signed_at = optional (is_mark marks.Comma) (behind marks.Comma signed_at)
+
+unfoldable pub offset_at : ℕ → Reader Offset
+offset_at n = do
+  opened ← open_at n marks.OpenBracket
+  first ← signed_at
+  second ← next_signed_at
+  close ← mark_at marks.CloseBracket
+  done (record { first = first; second = second })
+
+unfoldable pub cell_at : ℕ → Reader Num
+cell_at n = do
+  opened ← open_at n marks.OpenBracket
+  cell ← num_at
+  close ← mark_at marks.CloseBracket
+  done cell
+
+unfoldable pub cells_at : ℕ → Reader (Option Num)
+cells_at n = optional (is_mark marks.OpenBracket) (cell_at n)
+
+unfoldable pub count_at : ℕ → Reader Num
+count_at n = do
+  opened ← open_at n marks.OpenParen
+  count ← num_at
+  close ← mark_at marks.CloseParen
+  done count
+
+unfoldable pub counted_at : ℕ → Reader (Option Num)
+counted_at n = optional (is_mark marks.OpenParen) (count_at n)
+
+-- ---- statements
+
+unfoldable pub values_at : ℕ → Reader Values
+values_at n = do
+  opened ← open_at n marks.OpenParen
+  first ← expr_at opened.left
+  others ← many (is_mark marks.Comma) (behind marks.Comma (expr_at opened.left))
+  close ← mark_at marks.CloseParen
+  done (record { first = first; others = others })
+
+unfoldable pub send_at : ℕ → Reader StmtDecl
+send_at n = do
+  at ← mark_at marks.Send
+  array ← name_at
+  dot ← mark_at marks.Dot
+  entry ← name_at
+  values ← values_at n
+  done (stmts.Send at array entry values)
+
+unfoldable pub contribute_at : ℕ → Reader StmtDecl
+contribute_at n = do
+  at ← mark_at marks.Contribute
+  name ← name_at
+  opened ← open_at n marks.OpenParen
+  value ← expr_at opened.left
+  close ← mark_at marks.CloseParen
+  done (stmts.Contribute at name value)
+
+unfoldable pub assign_at : ℕ → Reader StmtDecl
+assign_at n = do
+  target ← name_at
+  index ← optional (is_mark marks.OpenBracket) (index_with n (deeper n))
+  assign ← mark_at marks.Assign
+  value ← expr_at n
+  done (stmts.Assign target index value)
+
+-- inner: the statements of a block that stands here
+unfoldable pub block_with : ℕ → Reader (List StmtDecl) → Reader Block
+block_with n inner = do
+  opened ← open_at n marks.OpenBrace
+  statements ← inner
+  close ← mark_at marks.CloseBrace
+  done (roll-Block (record { at = opened.at; statements = statements }))
+
+unfoldable pub else_with : ℕ → Reader (List StmtDecl) → Reader (Option Block)
+else_with n inner = optional (is_mark marks.Else) (behind marks.Else (block_with n inner))
+
+unfoldable pub if_with : ℕ → Reader (List StmtDecl) → Reader StmtDecl
+if_with n inner = do
+  at ← mark_at marks.If
+  test ← expr_at n
+  block ← block_with n inner
+  other ← else_with n inner
+  done (stmts.If at test block other)
+
+unfoldable pub for_with : ℕ → Reader (List StmtDecl) → Reader StmtDecl
+for_with n inner = do
+  at ← mark_at marks.For
+  name ← name_at
+  word ← mark_at marks.In
+  low ← signed_at
+  dots ← mark_at marks.DotDot
+  high ← signed_at
+  block ← block_with n inner
+  done (stmts.For at name low high block)
+
+unfoldable pub stmt_with : ℕ → Reader (List StmtDecl) → Reader StmtDecl
+stmt_with n inner =
+    either (is_mark marks.If) (if_with n inner) (either (is_mark marks.For) (for_with n inner) (either (is_mark marks.Send) (send_at n) (either (is_mark marks.Contribute) (contribute_at n) (assign_at n))))
+
+-- a statement begins so
+abbrev pub is_stmt : Kind → Bool
+is_stmt k = is_name k || (is_mark marks.If k || (is_mark marks.For k || (is_mark marks.Send k || is_mark marks.Contribute k)))
+
+-- the statements of a block that stands where so many levels may be opened
+abbrev pub inner : ℕ → Reader (List StmtDecl)
+inner zero = none_deeper
+inner (suc n) = many is_stmt (stmt_with n (inner n))
+
+abbrev pub statements_at : ℕ → Reader (List StmtDecl)
+statements_at n = many is_stmt (stmt_with n (inner n))
+
+abbrev pub block_at : ℕ → Reader Block
+block_at n = block_with n (inner n)
+
+-- ---- steps
+
+unfoldable pub names_at : ℕ → Reader Names
+names_at n = do
+  opened ← open_at n marks.OpenParen
+  first ← name_at
+  others ← many (is_mark marks.Comma) (behind marks.Comma name_at)
+  close ← mark_at marks.CloseParen
+  done (record { first = first; others = others })
+
+unfoldable pub part_at : ℕ → Reader PartDecl
+part_at n = do
+  at ← mark_at marks.When
+  port ← name_at
+  names ← names_at n
+  block ← block_at n
+  done (record { at = at; port = port; names = names; block = block })
+
+-- at least two
+unfoldable pub parts_at : ℕ → Reader (List PartDecl)
+parts_at n = do
+  first ← part_at n
+  second ← part_at n
+  others ← many (is_mark marks.When) (part_at n)
+  done (first ∷ second ∷ others)
+
+unfoldable pub overlap_at : ℕ → Reader StepBody
+overlap_at n = do
+  at ← mark_at marks.Overlap
+  opened ← open_at n marks.OpenBrace
+  parts ← parts_at opened.left
+  close ← mark_at marks.CloseBrace
+  done (bodies.Overlap at parts)
+
+unfoldable pub body_at : ℕ → Reader StepBody
+body_at n = either (is_mark marks.When) (part_at n >>= λ part. done (bodies.Part part)) (either (is_mark marks.Overlap) (overlap_at n) (block_at n >>= λ block. done (bodies.Block block)))
+
+unfoldable pub step_at : ℕ → Reader StepDecl
+step_at n = do
+  at ← mark_at marks.Step
+  body ← body_at n
+  done (record { at = at; body = body })
+
+unfoldable pub steps_at : ℕ → Reader (List StepDecl)
+steps_at n = some (is_mark marks.Step) (step_at n)
 
 -- ---- declarations
 
-unfoldable pub assign_at : ℕ → List Token → Read StmtDecl
-assign_at n ts = do
-  target ← name_at ts
-  assign ← mark_at marks.Assign target.1
-  value ← sum_at n assign.1
-  Ok (stmts.Assign target.0 value.0, value.1)
+unfoldable pub state_at : ℕ → Reader StateDecl
+state_at n = do
+  at ← mark_at marks.State
+  name ← name_at
+  colon ← mark_at marks.Colon
+  int ← mark_at marks.Int
+  cells ← cells_at n
+  assign ← mark_at marks.Assign
+  start ← expr_at n
+  done (record { at = at; name = name; cells = cells; start = start })
 
-unfoldable pub next_value_at : ℕ → List Token → Read Sum
-next_value_at n = behind marks.Comma (sum_at n)
-
-unfoldable pub values_at : ℕ → List Token → Read (List Sum)
-values_at n = listed marks.Comma (sum_at n)
-
--- n: the levels that a value may open
-unfoldable pub send_at : ℕ → List Token → Read StmtDecl
-send_at n ts = do
-  word ← mark_at marks.Send ts
-  array ← name_at word.1
-  dot ← mark_at marks.Dot array.1
-  entry ← name_at dot.1
-  opened ← mark_at marks.OpenParen entry.1
-  values ← values_at n opened.1
-  closed ← mark_at marks.CloseParen values.1
-  Ok (stmts.Send (record { array = array.0; entry = entry.0; values = values.0 }), closed.1)
-
--- where no level may be opened, nothing can be sent
-abbrev pub sends_at : ℕ → List Token → Read StmtDecl
-sends_at zero = refuse
-sends_at (suc n) = send_at n
-
-unfoldable pub stmt_at : ℕ → List Token → Read StmtDecl
-stmt_at n ts = if goes (is_mark marks.Send) ts then sends_at n ts else assign_at n ts
-
-unfoldable pub stmts_at : ℕ → List Token → Read (List StmtDecl)
-stmts_at n = many is_stmt (stmt_at n)
-
-unfoldable pub block_at : ℕ → List Token → Read (List StmtDecl)
-block_at n ts = do
-  opened ← mark_at marks.OpenBrace ts
-  block ← stmts_at n opened.1
-  closed ← mark_at marks.CloseBrace block.1
-  Ok (block.0, closed.1)
-
-unfoldable pub next_name_at : List Token → Read Span
-next_name_at = behind marks.Comma name_at
-
-unfoldable pub names_at : List Token → Read (List Span)
-names_at = listed marks.Comma name_at
-
-unfoldable pub when_at : ℕ → List Token → Read StepDecl
-when_at n ts = do
-  word ← mark_at marks.When ts
-  port ← name_at word.1
-  opened ← mark_at marks.OpenParen port.1
-  names ← names_at opened.1
-  closed ← mark_at marks.CloseParen names.1
-  block ← block_at n closed.1
-  Ok (steps.When (record { port = port.0; names = names.0; block = block.0 }), block.1)
-
--- what stands behind the word `step`
-unfoldable pub part_at : ℕ → List Token → Read StepDecl
-part_at n ts = if goes (is_mark marks.When) ts then when_at n ts else (block_at n ts >>= λ b. Ok (steps.Block b.0, b.1))
-
-unfoldable pub step_at : ℕ → List Token → Read StepDecl
-step_at n ts = do
-  word ← mark_at marks.Step ts
-  part ← part_at n word.1
-  Ok (part.0, part.1)
-
-unfoldable pub steps_at : ℕ → List Token → Read (List StepDecl)
-steps_at n = some (is_mark marks.Step) (step_at n)
-
-unfoldable pub state_at : ℕ → List Token → Read StateDecl
-state_at n ts = do
-  word ← mark_at marks.State ts
-  name ← name_at word.1
-  colon ← mark_at marks.Colon name.1
-  int ← mark_at marks.Int colon.1
-  assign ← mark_at marks.Assign int.1
-  start ← sum_at n assign.1
-  Ok (record { name = name.0; start = start.0 }, start.1)
-
-unfoldable pub states_at : ℕ → List Token → Read (List StateDecl)
+unfoldable pub states_at : ℕ → Reader (List StateDecl)
 states_at n = some (is_mark marks.State) (state_at n)
 
--- ---- entries: the level that their brackets open is there wherever a step's brace is
+unfoldable pub edge_at : Reader EdgeDecl
+edge_at = either (is_mark marks.Wrap) (mark_at marks.Wrap >>= λ at. done (edges.Wrap at)) (mark_at marks.Else >>= λ at. signed_at >>= λ value. done (edges.Else at value))
 
-unfoldable pub sign_at : List Token → Read Bool
-sign_at ts = optional (is_mark marks.Minus) (mark_at marks.Minus) ts >>= λ sign. Ok (told sign.0, sign.1)
+unfoldable pub entry_at : ℕ → Reader EntryDecl
+entry_at n = do
+  at ← mark_at marks.Entry
+  name ← name_at
+  values ← counted_at n
+  from ← mark_at marks.From
+  source ← name_at
+  offset ← offset_at n
+  edge ← edge_at
+  done (record { at = at; name = name; values = values; source = source; offset = offset; edge = edge })
 
-unfoldable pub signed_at : List Token → Read SignedNum
-signed_at ts = do
-  sign ← sign_at ts
-  number ← num_at sign.1
-  Ok (record { negative = sign.0; number = number.0 }, number.1)
+unfoldable pub reduce_at : Reader ReduceDecl
+reduce_at = do
+  at ← mark_at marks.Reduce
+  name ← name_at
+  how ← how_at
+  done (record { at = at; name = name; how = how })
 
-unfoldable pub count_at : List Token → Read Num
-count_at ts = do
-  opened ← mark_at marks.OpenParen ts
-  count ← num_at opened.1
-  closed ← mark_at marks.CloseParen count.1
-  Ok (count.0, closed.1)
+unfoldable pub member_at : ℕ → Reader MemberDecl
+member_at n = either (is_mark marks.Entry) (entry_at n >>= λ entry. done (members.Entry entry)) (reduce_at >>= λ reduce. done (members.Reduce reduce))
 
-unfoldable pub counted_at : List Token → Read (Option Num)
-counted_at = optional (is_mark marks.OpenParen) count_at
+abbrev pub is_member : Kind → Bool
+is_member k = is_mark marks.Entry k || is_mark marks.Reduce k
 
-unfoldable pub wrap_at : List Token → Read EdgeDecl
-wrap_at ts = mark_at marks.Wrap ts >>= λ word. Ok (edges.Wrap, word.1)
+unfoldable pub members_at : ℕ → Reader (List MemberDecl)
+members_at n = many is_member (member_at n)
 
-unfoldable pub else_at : List Token → Read EdgeDecl
-else_at ts = do
-  word ← mark_at marks.Else ts
-  value ← signed_at word.1
-  Ok (edges.Else value.0, value.1)
+unfoldable pub array_at : ℕ → Reader ArrayDecl
+array_at n = do
+  at ← mark_at marks.Array
+  name ← name_at
+  sizes ← coordinates_at n
+  opened ← open_at n marks.OpenBrace
+  states ← states_at opened.left
+  members ← members_at opened.left
+  steps ← steps_at opened.left
+  end ← mark_at marks.CloseBrace
+  done (record { at = at; name = name; sizes = sizes; states = states; members = members; steps = steps })
 
-unfoldable pub edge_at : List Token → Read EdgeDecl
-edge_at ts = if goes (is_mark marks.Wrap) ts then wrap_at ts else else_at ts
+unfoldable pub arrays_at : ℕ → Reader (List ArrayDecl)
+arrays_at n = some (is_mark marks.Array) (array_at n)
 
-unfoldable pub entry_at : List Token → Read EntryDecl
-entry_at ts = do
-  word ← mark_at marks.Entry ts
-  name ← name_at word.1
-  values ← counted_at name.1
-  from ← mark_at marks.From values.1
-  source ← name_at from.1
-  opened ← mark_at marks.OpenBracket source.1
-  offset ← signed_at opened.1
-  closed ← mark_at marks.CloseBracket offset.1
-  edge ← edge_at closed.1
-  Ok (record { name = name.0; values = values.0; source = source.0; offset = offset.0; edge = edge.0 }, edge.1)
+-- ---- answers, behind the place of the word `answer`
 
-unfoldable pub entries_at : List Token → Read (List EntryDecl)
-entries_at = many (is_mark marks.Entry) entry_at
+unfoldable pub over_at : ℕ → Reader AnswerDecl
+over_at at = do
+  how ← how_at
+  array ← name_at
+  dot ← mark_at marks.Dot
+  state ← name_at
+  done (answers.Over at how array state)
 
--- n: the levels that a statement may open
-unfoldable pub array_at : ℕ → List Token → Read ArrayDecl
-array_at n ts = do
-  word ← mark_at marks.Array ts
-  name ← name_at word.1
-  opened ← mark_at marks.OpenBracket name.1
-  size ← num_at opened.1
-  closed ← mark_at marks.CloseBracket size.1
-  begun ← mark_at marks.OpenBrace closed.1
-  states ← states_at (suc n) begun.1
-  entries ← entries_at states.1
-  steps ← steps_at n entries.1
-  ended ← mark_at marks.CloseBrace steps.1
-  Ok (record { name = name.0; size = size.0; states = states.0; entries = entries.0; steps = steps.0 }, ended.1)
+unfoldable pub cell_answer_at : ℕ → ℕ → Reader AnswerDecl
+cell_answer_at n at = do
+  word ← mark_at marks.At
+  array ← name_at
+  element ← coordinates_at n
+  dot ← mark_at marks.Dot
+  state ← name_at
+  cell ← cells_at n
+  done (answers.At at array element state cell)
 
-unfoldable pub answer_at : List Token → Read AnswerDecl
-answer_at ts = do
-  word ← mark_at marks.Answer ts
-  sum ← mark_at marks.Sum word.1
-  array ← name_at sum.1
-  dot ← mark_at marks.Dot array.1
-  state ← name_at dot.1
-  Ok (answers.Sum array.0 state.0, state.1)
+unfoldable pub answer_at : ℕ → Reader AnswerDecl
+answer_at n = mark_at marks.Answer >>= λ at. either (is_mark marks.At) (cell_answer_at n at) (over_at at)
 
-unfoldable pub answers_at : List Token → Read (List AnswerDecl)
-answers_at = some (is_mark marks.Answer) answer_at
+unfoldable pub answers_at : ℕ → Reader (List AnswerDecl)
+answers_at n = some (is_mark marks.Answer) (answer_at n)
 
-unfoldable pub job_at : ℕ → List Token → Read Job
-job_at n ts = do
-  word ← mark_at marks.Job ts
-  name ← name_at word.1
-  iterate ← mark_at marks.Iterate name.1
-  iterations ← num_at iterate.1
-  array ← array_at n iterations.1
-  answers ← answers_at array.1
-  Ok (record { name = name.0; iterations = iterations.0; array = array.0; answers = answers.0 }, answers.1)
+unfoldable pub job_at : ℕ → Reader Job
+job_at n = do
+  at ← mark_at marks.Job
+  name ← name_at
+  iterate ← mark_at marks.Iterate
+  iterations ← num_at
+  arrays ← arrays_at n
+  answers ← answers_at n
+  done (record { at = at; name = name; iterations = iterations; arrays = arrays; answers = answers })
+
+abbrev pub end_in : Kind → ℕ → Option ℕ
+end_in kinds.End at = Some at
+end_in _ at = None
+
+abbrev pub end_of : Token → Option ℕ
+end_of t = end_in t.kind t.at
 
 -- nothing is left
-abbrev pub finish : List Token → Read (Unit {0})
+abbrev pub finish : Reader (Unit {0})
 finish [] = Ok (tt, [])
 finish (t ∷ ts) = Err (wrong (t ∷ ts))
 
 -- the end of the text, and nothing behind it
-unfoldable pub end_at : List Token → Read (Unit {0})
-end_at ts = one end_of ts >>= λ e. finish e.1
+unfoldable pub end_at : Reader (Unit {0})
+end_at = one end_of >>= λ at. finish
 
-unfoldable pub text_at : ℕ → List Token → Read Job
-text_at n ts = do
-  job ← job_at n ts
-  done ← end_at job.1
-  Ok (job.0, done.1)
+unfoldable pub text_at : ℕ → Reader Job
+text_at n = do
+  job ← job_at n
+  end ← end_at
+  done job

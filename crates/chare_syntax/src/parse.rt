@@ -17,9 +17,9 @@ pub const MAX_TEXT: usize = 65_536;
 /// The tree of a job's text, with the text.
 ///
 /// Errors: `TooLong` exactly where the text has more than 65,536 bytes. Else the fault is at the first token with
-/// which no job goes on: `NotToken` where no token begins there, `NumberTooLarge`, `TooDeep` where a job of more
-/// levels goes on with it, and `Unexpected` otherwise; its place is a byte of the text, or the text's length where
-/// the text ends too early. Or `Memory`, where an allocation was refused.
+/// which no job of whatever depth goes on, or that opens level 33: `NotToken` where no token begins there,
+/// `NumberTooLarge`, `TooDeep` where it opens that level, and `Unexpected` otherwise; its place is a byte of the
+/// text, or the text's length where the text ends too early. Or `Memory`, where an allocation was refused.
 pub fn parse(alloc: Global, text: &[u8]) -> Result<Ast, ParseFault>
     ensures text { IfOk result (λ ast. ast.text ≡ text.now) }
     ensures found { IfOk result (λ ast. ReadsAs text.now ast.job) }

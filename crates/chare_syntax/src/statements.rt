@@ -1,31 +1,105 @@
-//! Readers of statements and of steps. `levels` is how many levels of nesting may still be opened.
+//! Readers of statements. `levels` is how many levels of nesting may still be opened.
 
-ghost use Rattle.std.specs.Prelude.{◌≡◌, ◌<◌, ◌≤◌, length, IfOk};
+ghost use Rattle.std.specs.Prelude.{◌≡◌, ◌<◌, ◌≤◌, ◌+◌, length, IfOk};
+ghost use Rattle.chare_syntax.specs.declared.token.Mark.TheVariants as marks;
 ghost use Rattle.chare_syntax.specs.Fault.{Gives};
-ghost use Rattle.chare_syntax.specs.Reading.{assign_at, block_at, names_at, next_name_at, next_value_at, part_at, send_at, step_at, steps_at, stmt_at, stmts_at, values_at, when_at};
+ghost use Rattle.chare_syntax.specs.Readers.{is_mark, many, optional};
+ghost use Rattle.chare_syntax.specs.Reading.{deeper, inner, behind, index_with, expr_at, values_at, send_at, contribute_at, assign_at, block_with, else_with, if_with, for_with, stmt_with, statements_at, block_at};
 
-use crate::expressions::sum_of;
+use crate::expressions::{expr_of, index_of};
 use crate::fault::ParseFault;
-use crate::leaves::{begins, begins_stmt, behind, name_of, place};
-use crate::token::{Mark, Span, Token};
-use crate::tree::{SendDecl, StepDecl, StmtDecl, Sum, WhenDecl};
+use crate::leaves::{begins, begins_stmt, mark_of, name_of, open_of};
+use crate::numbers::signed_of;
+use crate::token::{Mark, Token};
+use crate::tree::{Block, Expr, StmtDecl, Values};
 use sqlite_items::Items;
 use std::alloc::Global;
 
-// Reads a statement.
-#[tactic(auto, unfolding(crate::specs::Reading::stmt_at))]
-fn stmt_of(alloc: Global, tokens: &[Token], levels: u32) -> Result<(StmtDecl, &[Token]), ParseFault>
-    ensures exact { Gives (λ x. (x.0, x.1.now)) result (stmt_at levels tokens.now) }
+// Reads values behind commas.
+fn exprs_of(
+    alloc: Global,
+    tokens: &[Token],
+    levels: u32,
+) -> Result<(Items<Expr>, &[Token]), ParseFault>
+    ensures exact { Gives (λ x. (x.0, x.1.now)) result (many (is_mark marks.Comma) (behind marks.Comma (expr_at levels)) tokens.now) }
+    ensures shorter { IfOk result (λ x. length x.1.now ≤ length tokens.now) }
+{
+    let mut rest = tokens;
+    let mut values = Items::new(alloc);
+    'values: while begins(rest, Mark::Comma) {
+        let (_, after) = mark_of(rest, Mark::Comma)?;
+        let (value, after) = expr_of(alloc, after, levels)?;
+        values.push(value)?;
+        rest = after;
+    }
+    Ok((values, rest))
+}
+
+// Reads values in their brackets.
+#[tactic(auto, unfolding(crate::specs::Reading::values_at))]
+fn values_of(alloc: Global, tokens: &[Token], levels: u32) -> Result<(Values, &[Token]), ParseFault>
+    ensures exact { Gives (λ x. (x.0, x.1.now)) result (values_at levels tokens.now) }
     ensures shorter { IfOk result (λ x. length x.1.now < length tokens.now) }
 {
-    if begins(tokens, Mark::Send) {
-        if levels == 0 {
-            return Err(ParseFault::TooDeep { at: place(tokens) });
-        }
-        send_of(alloc, tokens, levels - 1)
-    } else {
-        assign_of(alloc, tokens, levels)
+    let (opened, rest) = open_of(tokens, levels, Mark::OpenParen)?;
+    let (first, rest) = expr_of(alloc, rest, opened.left)?;
+    let (others, rest) = exprs_of(alloc, rest, opened.left)?;
+    let (_, rest) = mark_of(rest, Mark::CloseParen)?;
+    Ok((Values { first, others }, rest))
+}
+
+// Reads a send.
+#[tactic(auto, unfolding(crate::specs::Reading::send_at))]
+fn send_of(alloc: Global, tokens: &[Token], levels: u32) -> Result<(StmtDecl, &[Token]), ParseFault>
+    ensures exact { Gives (λ x. (x.0, x.1.now)) result (send_at levels tokens.now) }
+    ensures shorter { IfOk result (λ x. length x.1.now < length tokens.now) }
+{
+    let (at, rest) = mark_of(tokens, Mark::Send)?;
+    let (array, rest) = name_of(rest)?;
+    let (_, rest) = mark_of(rest, Mark::Dot)?;
+    let (entry, rest) = name_of(rest)?;
+    let (values, rest) = values_of(alloc, rest, levels)?;
+    let statement = StmtDecl::Send {
+        at,
+        array,
+        entry,
+        values,
+    };
+    Ok((statement, rest))
+}
+
+// Reads a contribution.
+#[tactic(auto, unfolding(crate::specs::Reading::contribute_at))]
+fn contribute_of(
+    alloc: Global,
+    tokens: &[Token],
+    levels: u32,
+) -> Result<(StmtDecl, &[Token]), ParseFault>
+    ensures exact { Gives (λ x. (x.0, x.1.now)) result (contribute_at levels tokens.now) }
+    ensures shorter { IfOk result (λ x. length x.1.now < length tokens.now) }
+{
+    let (at, rest) = mark_of(tokens, Mark::Contribute)?;
+    let (name, rest) = name_of(rest)?;
+    let (opened, rest) = open_of(rest, levels, Mark::OpenParen)?;
+    let (value, rest) = expr_of(alloc, rest, opened.left)?;
+    let (_, rest) = mark_of(rest, Mark::CloseParen)?;
+    Ok((StmtDecl::Contribute { at, name, value }, rest))
+}
+
+// Reads an index, where there is one.
+fn target_index_of(
+    alloc: Global,
+    tokens: &[Token],
+    levels: u32,
+) -> Result<(Option<Expr>, &[Token]), ParseFault>
+    ensures exact { Gives (λ x. (x.0, x.1.now)) result (optional (is_mark marks.OpenBracket) (index_with levels (deeper levels)) tokens.now) }
+    ensures shorter { IfOk result (λ x. length x.1.now ≤ length tokens.now) }
+{
+    if !begins(tokens, Mark::OpenBracket) {
+        return Ok((None, tokens));
     }
+    let (index, rest) = index_of(alloc, tokens, levels)?;
+    Ok((Some(index), rest))
 }
 
 // Reads an assignment.
@@ -39,191 +113,149 @@ fn assign_of(
     ensures shorter { IfOk result (λ x. length x.1.now < length tokens.now) }
 {
     let (target, rest) = name_of(tokens)?;
-    let rest = behind(rest, Mark::Assign)?;
-    let (value, rest) = sum_of(alloc, rest, levels)?;
-    Ok((StmtDecl::Assign { target, value }, rest))
+    let (index, rest) = target_index_of(alloc, rest, levels)?;
+    let (_, rest) = mark_of(rest, Mark::Assign)?;
+    let (value, rest) = expr_of(alloc, rest, levels)?;
+    let statement = StmtDecl::Assign {
+        target,
+        index,
+        value,
+    };
+    Ok((statement, rest))
 }
 
-// Reads what is sent, whose values may open so many levels.
-#[tactic(auto, unfolding(crate::specs::Reading::send_at))]
-fn send_of(alloc: Global, tokens: &[Token], levels: u32) -> Result<(StmtDecl, &[Token]), ParseFault>
-    ensures exact { Gives (λ x. (x.0, x.1.now)) result (send_at levels tokens.now) }
+// Reads a statement.
+#[cycle(statement)]
+#[tactic(auto, unfolding(crate::specs::Reading::stmt_with))]
+fn stmt_of(alloc: Global, tokens: &[Token], levels: u32) -> Result<(StmtDecl, &[Token]), ParseFault>
+    ensures exact { Gives (λ x. (x.0, x.1.now)) result (stmt_with levels (inner levels) tokens.now) }
     ensures shorter { IfOk result (λ x. length x.1.now < length tokens.now) }
 {
-    let rest = behind(tokens, Mark::Send)?;
-    let (array, rest) = name_of(rest)?;
-    let rest = behind(rest, Mark::Dot)?;
-    let (entry, rest) = name_of(rest)?;
-    let rest = behind(rest, Mark::OpenParen)?;
-    let (values, rest) = values_of(alloc, rest, levels)?;
-    let rest = behind(rest, Mark::CloseParen)?;
-    Ok((
-        StmtDecl::Send(SendDecl {
-            array,
-            entry,
-            values,
-        }),
-        rest,
-    ))
-}
-
-// Reads values with commas between them, of which there is one at least.
-#[tactic(auto, unfolding(crate::specs::Reading::values_at, crate::specs::Reading::next_value_at))]
-fn values_of(
-    alloc: Global,
-    tokens: &[Token],
-    levels: u32,
-) -> Result<(Items<Sum>, &[Token]), ParseFault>
-    ensures exact { Gives (λ x. (x.0, x.1.now)) result (values_at levels tokens.now) }
-    ensures shorter { IfOk result (λ x. length x.1.now < length tokens.now) }
-{
-    let (first, mut rest) = sum_of(alloc, tokens, levels)?;
-    let mut values = Items::new(alloc);
-    values.push(first)?;
-    'values: while begins(rest, Mark::Comma) {
-        let (value, after) = next_value_of(alloc, rest, levels)?;
-        values.push(value)?;
-        rest = after;
+    if begins(tokens, Mark::If) {
+        if_of(alloc, tokens, levels)
+    } else if begins(tokens, Mark::For) {
+        for_of(alloc, tokens, levels)
+    } else if begins(tokens, Mark::Send) {
+        send_of(alloc, tokens, levels)
+    } else if begins(tokens, Mark::Contribute) {
+        contribute_of(alloc, tokens, levels)
+    } else {
+        assign_of(alloc, tokens, levels)
     }
-    Ok((values, rest))
 }
 
-// Reads a value behind a comma.
-#[tactic(auto, unfolding(crate::specs::Reading::next_value_at))]
-fn next_value_of(
-    alloc: Global,
-    tokens: &[Token],
-    levels: u32,
-) -> Result<(Sum, &[Token]), ParseFault>
-    ensures exact { Gives (λ x. (x.0, x.1.now)) result (next_value_at levels tokens.now) }
+// Reads an `if`, with its `else` where it has one.
+#[cycle(statement)]
+#[tactic(auto, unfolding(crate::specs::Reading::if_with))]
+fn if_of(alloc: Global, tokens: &[Token], levels: u32) -> Result<(StmtDecl, &[Token]), ParseFault>
+    ensures exact { Gives (λ x. (x.0, x.1.now)) result (if_with levels (inner levels) tokens.now) }
     ensures shorter { IfOk result (λ x. length x.1.now < length tokens.now) }
 {
-    let rest = behind(tokens, Mark::Comma)?;
-    let (value, rest) = sum_of(alloc, rest, levels)?;
-    Ok((value, rest))
+    let (at, rest) = mark_of(tokens, Mark::If)?;
+    let (test, rest) = expr_of(alloc, rest, levels)?;
+    let (block, rest) = block_of(alloc, rest, levels)?;
+    let (other, rest) = else_of(alloc, rest, levels)?;
+    let statement = StmtDecl::If {
+        at,
+        test,
+        block,
+        other,
+    };
+    Ok((statement, rest))
 }
 
-// Reads the statements of a block.
-#[tactic(auto, unfolding(crate::specs::Reading::stmts_at))]
-fn stmts_of(
+// Reads `else` and its block, where there is one.
+#[cycle(statement)]
+#[tactic(auto, unfolding(crate::specs::Reading::else_with))]
+fn else_of(
     alloc: Global,
     tokens: &[Token],
     levels: u32,
-) -> Result<(Items<StmtDecl>, &[Token]), ParseFault>
-    ensures exact { Gives (λ x. (x.0, x.1.now)) result (stmts_at levels tokens.now) }
+) -> Result<(Option<Block>, &[Token]), ParseFault>
+    ensures exact { Gives (λ x. (x.0, x.1.now)) result (else_with levels (inner levels) tokens.now) }
     ensures shorter { IfOk result (λ x. length x.1.now ≤ length tokens.now) }
 {
-    let mut rest = tokens;
-    let mut block = Items::new(alloc);
-    'statements: while begins_stmt(rest) {
-        let (statement, after) = stmt_of(alloc, rest, levels)?;
-        block.push(statement)?;
-        rest = after;
+    if !begins(tokens, Mark::Else) {
+        return Ok((None, tokens));
     }
-    Ok((block, rest))
+    let (_, rest) = mark_of(tokens, Mark::Else)?;
+    let (block, rest) = block_of(alloc, rest, levels)?;
+    Ok((Some(block), rest))
 }
 
-// Reads a block.
-#[tactic(auto, unfolding(crate::specs::Reading::block_at))]
-fn block_of(
+// Reads a `for`.
+#[cycle(statement)]
+#[tactic(auto, unfolding(crate::specs::Reading::for_with))]
+fn for_of(alloc: Global, tokens: &[Token], levels: u32) -> Result<(StmtDecl, &[Token]), ParseFault>
+    ensures exact { Gives (λ x. (x.0, x.1.now)) result (for_with levels (inner levels) tokens.now) }
+    ensures shorter { IfOk result (λ x. length x.1.now < length tokens.now) }
+{
+    let (at, rest) = mark_of(tokens, Mark::For)?;
+    let (name, rest) = name_of(rest)?;
+    let (_, rest) = mark_of(rest, Mark::In)?;
+    let (low, rest) = signed_of(rest)?;
+    let (_, rest) = mark_of(rest, Mark::DotDot)?;
+    let (high, rest) = signed_of(rest)?;
+    let (block, rest) = block_of(alloc, rest, levels)?;
+    let statement = StmtDecl::For {
+        at,
+        name,
+        low,
+        high,
+        block,
+    };
+    Ok((statement, rest))
+}
+
+/// Reads a block.
+#[cycle(statement)]
+#[tactic(auto, unfolding(crate::specs::Reading::block_with))]
+pub fn block_of(
     alloc: Global,
     tokens: &[Token],
     levels: u32,
-) -> Result<(Items<StmtDecl>, &[Token]), ParseFault>
+) -> Result<(Block, &[Token]), ParseFault>
     ensures exact { Gives (λ x. (x.0, x.1.now)) result (block_at levels tokens.now) }
     ensures shorter { IfOk result (λ x. length x.1.now < length tokens.now) }
 {
-    let rest = behind(tokens, Mark::OpenBrace)?;
-    let (block, rest) = stmts_of(alloc, rest, levels)?;
-    let rest = behind(rest, Mark::CloseBrace)?;
-    Ok((block, rest))
+    let (opened, rest) = open_of(tokens, levels, Mark::OpenBrace)?;
+    let (statements, rest) = deeper_statements_of(alloc, rest, opened.left, levels)?;
+    let (_, rest) = mark_of(rest, Mark::CloseBrace)?;
+    let at = opened.at;
+    Ok((Block { at, statements }, rest))
 }
 
-// Reads names with commas between them, of which there is one at least.
-#[tactic(auto, unfolding(crate::specs::Reading::names_at, crate::specs::Reading::next_name_at))]
-fn names_of(alloc: Global, tokens: &[Token]) -> Result<(Items<Span>, &[Token]), ParseFault>
-    ensures exact { Gives (λ x. (x.0, x.1.now)) result (names_at tokens.now) }
-    ensures shorter { IfOk result (λ x. length x.1.now < length tokens.now) }
+// Reads the statements of a block, which stand a level deeper.
+#[cycle(statement)]
+fn deeper_statements_of(
+    alloc: Global,
+    tokens: &[Token],
+    left: u32,
+    levels: u32,
+) -> Result<(Items<StmtDecl>, &[Token]), ParseFault>
+    requires { left + 1 ≡ levels }
+    ensures exact { Gives (λ x. (x.0, x.1.now)) result (inner levels tokens.now) }
+    ensures shorter { IfOk result (λ x. length x.1.now ≤ length tokens.now) }
 {
-    let (first, mut rest) = name_of(tokens)?;
-    let mut names = Items::new(alloc);
-    names.push(first)?;
-    'names: while begins(rest, Mark::Comma) {
-        let (name, after) = next_name_of(rest)?;
-        names.push(name)?;
-        rest = after;
-    }
-    Ok((names, rest))
+    statements_of(alloc, tokens, left)
 }
 
-// Reads a name behind a comma.
-#[tactic(auto, unfolding(crate::specs::Reading::next_name_at))]
-fn next_name_of(tokens: &[Token]) -> Result<(Span, &[Token]), ParseFault>
-    ensures exact { Gives (λ x. (x.0, x.1.now)) result (next_name_at tokens.now) }
-    ensures shorter { IfOk result (λ x. length x.1.now < length tokens.now) }
-{
-    let rest = behind(tokens, Mark::Comma)?;
-    let (name, rest) = name_of(rest)?;
-    Ok((name, rest))
-}
-
-// Reads a block that waits for a message.
-#[tactic(auto, unfolding(crate::specs::Reading::when_at))]
-fn when_of(alloc: Global, tokens: &[Token], levels: u32) -> Result<(StepDecl, &[Token]), ParseFault>
-    ensures exact { Gives (λ x. (x.0, x.1.now)) result (when_at levels tokens.now) }
-    ensures shorter { IfOk result (λ x. length x.1.now < length tokens.now) }
-{
-    let rest = behind(tokens, Mark::When)?;
-    let (port, rest) = name_of(rest)?;
-    let rest = behind(rest, Mark::OpenParen)?;
-    let (names, rest) = names_of(alloc, rest)?;
-    let rest = behind(rest, Mark::CloseParen)?;
-    let (block, rest) = block_of(alloc, rest, levels)?;
-    Ok((StepDecl::When(WhenDecl { port, names, block }), rest))
-}
-
-// Reads what stands behind the word `step`.
-#[tactic(auto, unfolding(crate::specs::Reading::part_at))]
-fn part_of(alloc: Global, tokens: &[Token], levels: u32) -> Result<(StepDecl, &[Token]), ParseFault>
-    ensures exact { Gives (λ x. (x.0, x.1.now)) result (part_at levels tokens.now) }
-    ensures shorter { IfOk result (λ x. length x.1.now < length tokens.now) }
-{
-    if begins(tokens, Mark::When) {
-        when_of(alloc, tokens, levels)
-    } else {
-        let (block, rest) = block_of(alloc, tokens, levels)?;
-        Ok((StepDecl::Block(block), rest))
-    }
-}
-
-// Reads a step.
-#[tactic(auto, unfolding(crate::specs::Reading::step_at))]
-fn step_of(alloc: Global, tokens: &[Token], levels: u32) -> Result<(StepDecl, &[Token]), ParseFault>
-    ensures exact { Gives (λ x. (x.0, x.1.now)) result (step_at levels tokens.now) }
-    ensures shorter { IfOk result (λ x. length x.1.now < length tokens.now) }
-{
-    let rest = behind(tokens, Mark::Step)?;
-    let (part, rest) = part_of(alloc, rest, levels)?;
-    Ok((part, rest))
-}
-
-/// Reads steps, of which there is one at least.
-#[tactic(auto, unfolding(crate::specs::Reading::steps_at))]
-pub fn steps_of(
+// Reads statements.
+#[cycle(statement)]
+fn statements_of(
     alloc: Global,
     tokens: &[Token],
     levels: u32,
-) -> Result<(Items<StepDecl>, &[Token]), ParseFault>
-    ensures exact { Gives (λ x. (x.0, x.1.now)) result (steps_at levels tokens.now) }
-    ensures shorter { IfOk result (λ x. length x.1.now < length tokens.now) }
+) -> Result<(Items<StmtDecl>, &[Token]), ParseFault>
+    ensures exact { Gives (λ x. (x.0, x.1.now)) result (statements_at levels tokens.now) }
+    ensures shorter { IfOk result (λ x. length x.1.now ≤ length tokens.now) }
 {
-    let (first, mut rest) = step_of(alloc, tokens, levels)?;
-    let mut steps = Items::new(alloc);
-    steps.push(first)?;
-    'steps: while begins(rest, Mark::Step) {
-        let (step, after) = step_of(alloc, rest, levels)?;
-        steps.push(step)?;
+    let mut rest = tokens;
+    let mut statements = Items::new(alloc);
+    'statements: while begins_stmt(rest) {
+        let (statement, after) = stmt_of(alloc, rest, levels)?;
+        statements.push(statement)?;
         rest = after;
     }
-    Ok((steps, rest))
+    Ok((statements, rest))
 }

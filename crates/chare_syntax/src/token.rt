@@ -105,3 +105,10 @@ pub struct Token {
     pub kind: Kind,
     pub at: u32,
 }
+
+/// A mark that opens a level: its place, and how many levels may be opened behind it.
+#[derive(Clone, Copy)]
+pub struct Opened {
+    pub at: u32,
+    pub left: u32,
+}

@@ -1,41 +1,59 @@
 -- What an input is owed, by its tree and its plan.
-use Rattle.std.proofs.Common.{◌≡◌, ℕ, List, [], ap, sym, ◌∙◌, subst, codes, length, ◌≤◌, Option, Some, None, Result, Ok, Err, IfOk}
+use Rattle.std.proofs.Common.{◌≡◌, ℕ, List, [], ap, sym, refl, ◌∙◌, subst, codes, length, ◌≤◌, Some, Result, Ok, Err, IfOk, inl, inr}
+use Rattle.chare_base.specs.declared.memory.Memory.{Memory}
 use Rattle.chare_base.specs.declared.plan.Plan.{Plan}
-use Rattle.chare_base.specs.Elements.{Fields, fields_of}
 use Rattle.chare_checker.specs.declared.fault.CheckFault.{CheckFault}
-use Rattle.chare_checker.specs.declared.fault.CheckFault.TheVariants.{Refused, Memory as CheckMemory}
-use Rattle.chare_checker.specs.Accepted.{HasNoPlan, IsPlan}
-use Rattle.chare_checker.specs.Options.{Gives}
-use Rattle.chare_checker.specs.Planned.{planned}
+use Rattle.chare_checker.specs.declared.fault.CheckFault.TheVariants as checks
+use Rattle.chare_checker.specs.Accepted.{IsPlan, IsRefused, RefusedHasNone}
+use Rattle.chare_checker.specs.Checked.{Checks, first_fault, plan_of}
+use Rattle.chare_checker.specs.Faults.{place_of}
+use Rattle.chare_checker.specs.Wording.{fault_code, parse_code, parse_place, wording}
+use Rattle.chare_syntax.specs.declared.fault.ParseFault.{ParseFault}
+use Rattle.chare_syntax.specs.declared.fault.ParseFault.TheVariants as parses
 use Rattle.chare_syntax.specs.declared.tree.Job.{Job as Tree}
-use Rattle.chare_syntax.specs.Text.{OneTree, ReadsAs}
+use Rattle.chare_syntax.specs.Text.{ReadsAs, ReadsAsNone, TextFault}
 use Rattle.run_ledger.specs.Laws.{AcceptThenDoneIsLawful}
 use Rattle.run_report.specs.Laws.{ReportsAreFaultFree}
 use Rattle.run_report.specs.Report.{report}
-use Rattle.chare_base.specs.declared.memory.Memory.{Memory}
 use Rattle.top_call.specs.declared.answer.Answer.{Answer}
 use Rattle.top_call.specs.declared.status.Status.{Status}
 use Rattle.top_call.specs.declared.status.Status.TheVariants.{Job}
-use Rattle.top_call.specs.Due.{Due, IsReport, defaults, drill_records}
+use Rattle.top_call.specs.Due.{Due, IsReport, defaults, drill_records, job_line}
 
-abbrev there : Fields → Option Fields
-there x = Some x
+-- a text that the grammar refuses
+pub not_read : (input : List ℕ) (f : ParseFault) (at code : ℕ) → TextFault input f → ((f ≡ parses.Memory → ⊥) → ReadsAsNone input) →
+    at ≡ parse_place f → code ≡ parse_code f → (code ≡ 0 → ⊥) → IsRefused input at code
+not_read input f at code told none placed coded word =
+    let real : f ≡ parses.Memory → ⊥ = λ is. word (coded ∙ ap parse_code is) in
+    inl (record { fault = f; none = none real; told = told; real = real; placed = placed; coded = coded })
 
-none_there : (x : Fields) (o : Option Fields) → o ≡ None → o ≡ there x → ⊥
-none_there x o a b = absurd (let e : None ≡ there x = sym a ∙ b in cc)
+first : (text : List ℕ) (job : Tree) (f : CheckFault) → Checks text job (Err f) → (f ≡ checks.Memory → ⊥) → first_fault text job ≡ Some f
+first text job (checks.Twice at) h r = h
+first text job (checks.Unknown at) h r = h
+first text job (checks.Kind at) h r = h
+first text job (checks.Shape at) h r = h
+first text job (checks.NotOnce entry at) h r = h
+first text job (checks.TooEarly entry at) h r = h
+first text job (checks.Overlap name at) h r = h
+first text job (checks.Bound at) h r = h
+first text job (checks.Limit which value at) h r = h
+first text job checks.Plan h r = h
+first text job checks.Memory h r = absurd (r refl)
 
--- a text whose tree has no plan
-pub no_plan : OneTree → (input text : List ℕ) (job : Tree) → text ≡ input → ReadsAs input job → planned text job ≡ None → HasNoPlan input
-no_plan one_tree input text job same reads none p is =
-    none_there (fields_of p) (planned input is.job)
-    (ap (planned input) (one_tree input is.job job is.reads reads) ∙ ap (λ t. planned t job) (sym same) ∙ none) is.plans
+-- a text whose tree breaks a rule
+pub broken : (input text : List ℕ) (job : Tree) (f : CheckFault) (at code : ℕ) → text ≡ input → ReadsAs input job → Checks text job (Err f) →
+    at ≡ place_of f → code ≡ fault_code f → (code ≡ 0 → ⊥) → IsRefused input at code
+broken input text job f at code same reads answered placed coded word =
+    let real : f ≡ checks.Memory → ⊥ = λ is. word (coded ∙ ap fault_code is) in
+    inr (record { job = job; fault = f; reads = reads; first = ap (λ t. first_fault t job) (sym same) ∙ first text job f answered real; placed = placed; coded = coded })
 
 -- a text with its tree and its plan
-pub is_plan : (input text : List ℕ) (job : Tree) (p : Plan) → text ≡ input → ReadsAs input job → planned text job ≡ Some (fields_of p) → IsPlan input p
-is_plan input text job p same reads plans = record {
+pub is_plan : (input text : List ℕ) (job : Tree) (p : Plan) → text ≡ input → ReadsAs input job → Checks text job (Ok p) → IsPlan input p
+is_plan input text job p same reads answered = record {
   job = job;
   reads = reads;
-  plans = ap (λ t. planned t job) (sym same) ∙ plans;
+  sound = ap (λ t. first_fault t job) (sym same) ∙ answered.0;
+  plans = answered.1 ∙ ap (λ t. plan_of t job) same;
 }
 
 pub is_report : AcceptThenDoneIsLawful → ReportsAreFaultFree → (p : Plan) (text : List ℕ) → text ≡ report p [] defaults (drill_records p) → IsReport p text
@@ -50,12 +68,9 @@ pub reported : AcceptThenDoneIsLawful → ReportsAreFaultFree → (p : Plan) (r 
 reported lawful fault_free p (Ok text) h = is_report lawful fault_free p text h
 reported lawful fault_free p (Err e) h = tt
 
--- the answer of an input that has no plan
-pub due_job : (input : List ℕ) → length input ≤ 262144 → HasNoPlan input → (r : Result Answer Memory) → IfOk r (λ a. a.status ≡ Job) → IfOk r (λ a. a.text ≡ codes "job\n") → IfOk r (λ a. Due input a.status a.text)
-due_job input fits none (Ok a) status text = subst (λ (s : Status). Due input s a.text) (sym status) (fits, none, text)
-due_job input fits none (Err e) status text = tt
-
--- a refusal says that there is no plan
-pub refused : (f : CheckFault) (planned : Option Fields) → f ≡ Refused → Gives fields_of (Err f) planned → planned ≡ None
-refused Refused planned is h = h
-refused CheckMemory planned is h = absurd cc
+-- the answer to an input that is no job
+pub due_job : RefusedHasNone → (input : List ℕ) (at code : ℕ) → length input ≤ 262144 → ((code ≡ 0 → ⊥) → IsRefused input at code) → (r : Result Answer Memory) →
+    IfOk r (λ a. a.status ≡ Job) → IfOk r (λ a. a.text ≡ job_line (wording input at code)) → IfOk r (λ a. code ≡ 0 → ⊥) → IfOk r (λ a. Due input a.status a.text)
+due_job none input at code fits refused (Ok a) status text word =
+    subst (λ (s : Status). Due input s a.text) (sym status) (fits, none input at code (refused word), (at, code, refused word, text))
+due_job none input at code fits refused (Err e) status text word = tt

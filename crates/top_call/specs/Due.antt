@@ -1,5 +1,6 @@
 -- What the program owes: the status and the text, by the words and the input.
-use Rattle.std.specs.Prelude.{◌≡◌, ℕ, ◌<◌, ◌≤◌, List, [], ◌∷◌, Option, codes, length, map, ◌⊎◌}
+use Rattle.std.specs.Prelude.{◌≡◌, ℕ, ◌<◌, ◌≤◌, List, [], ◌∷◌, ◌++◌, Option, codes, length, map, ◌⊎◌}
+use Rattle.std.specs.Fmt.{decimal}
 use Rattle.std.specs.String.{string_bytes}
 use Rattle.std.specs.declared.string.String.{String}
 use Rattle.std.specs.declared.alloc.Global.{Global}
@@ -9,7 +10,9 @@ use Rattle.std.specs.Io.KnownBytes.{Consumes, Appends, IsAtEnd}
 use Rattle.chare_base.specs.declared.options.Mode.TheVariants.{Strong}
 use Rattle.chare_base.specs.declared.options.Options.{Options}
 use Rattle.chare_base.specs.declared.plan.Plan.{Plan}
-use Rattle.chare_checker.specs.Accepted.{HasNoPlan, IsPlan}
+use Rattle.chare_checker.specs.declared.wording.Wording.{Wording}
+use Rattle.chare_checker.specs.Accepted.{HasNoPlan, IsPlan, IsRefused}
+use Rattle.chare_checker.specs.Wording.{word_of, wording}
 use Rattle.outside_io.specs.Counts.{Rose}
 use Rattle.outside_io.specs.Parts.{AppendsPart, ConsumesPart}
 use Rattle.run_ledger.specs.declared.record.Record.{Record}
@@ -47,10 +50,15 @@ pub record IsReport (p : Plan) (text : List ℕ) : Type 0 where
   pub reports : text ≡ report p [] defaults (drill_records p)
   pub fault_free : text ≡ plain_report p defaults (drill_records p)
 
+-- why a text is no job: `job LINE COLUMN WORD`
+abbrev pub job_line : Wording → List ℕ
+job_line w = codes "job " ++ decimal w.line ++ codes " " ++ decimal w.column ++ codes " " ++ word_of w.code ++ codes "\n"
+
 -- the status and the text that are due to an input
 abbrev pub Due : List ℕ → Status → List ℕ → Type 0
 Due input Done text = (length input ≤ 262144) × ((p : Plan) × IsPlan input p × IsReport p text)
-Due input Job text = (length input ≤ 262144) × HasNoPlan input × (text ≡ codes "job\n")
+Due input Job text =
+    (length input ≤ 262144) × HasNoPlan input × ((at : ℕ) × (code : ℕ) × IsRefused input at code × (text ≡ job_line (wording input at code)))
 Due input Long text = (262144 < length input) × (text ≡ codes "long\n")
 Due input _ text = ⊥
 

@@ -1,16 +1,18 @@
 //! What an input is answered.
 
-ghost use Rattle.std.specs.Prelude.{◌≡◌, codes, IfOk};
-ghost use Rattle.top_call.specs.Due.{Due};
+ghost use Rattle.std.specs.Prelude.{◌≡◌, ◌≤◌, codes, length, IfOk};
+ghost use Rattle.chare_checker.specs.Wording.{wording};
+ghost use Rattle.top_call.specs.Due.{Due, job_line};
 
 use crate::drill::drill;
+use crate::refusal::job_line;
 use crate::status::Status;
 use chare_base::bytes::Bytes;
 use chare_base::memory::Memory;
 use chare_checker::check::check;
-use chare_checker::fault::CheckFault;
-use chare_syntax::fault::ParseFault;
-use chare_syntax::parse::{one_tree, parse};
+use chare_checker::laws::refused_has_none;
+use chare_checker::wording::{fault_code, parse_code, parse_place};
+use chare_syntax::parse::parse;
 use std::alloc::Global;
 
 /// The longest input that is looked at, in bytes.
@@ -23,25 +25,23 @@ pub struct Answer {
     pub text: Bytes,
 }
 
-/// The answer that is due to an input: the report of its drill, `job` where it is no job, or `long` where it has
-/// more than 262,144 bytes.
+/// The answer that is due to an input: the report of its drill; where it is no job, `job` with the line, the column
+/// and the word of the first fault; or `long` where it has more than 262,144 bytes.
 pub fn answer_to(alloc: Global, input: &[u8]) -> Result<Answer, Memory>
     ensures { IfOk result (λ answer. Due input.now answer.status answer.text) }
 {
     if input.len() > INPUT_LIMIT {
         return too_long(alloc);
     }
-    // A text has one tree at most, so where that tree has no plan the text has none.
-    one_tree();
+    // So an input that is refused has no plan.
+    refused_has_none();
     let ast = match parse(alloc, input) {
         Ok(ast) => ast,
-        Err(ParseFault::Memory) => return Err(Memory),
-        Err(_) => return no_job(alloc),
+        Err(fault) => return no_job(alloc, input, parse_place(fault), parse_code(fault)),
     };
     let plan = match check(alloc, &ast) {
         Ok(plan) => plan,
-        Err(CheckFault::Memory) => return Err(Memory),
-        Err(CheckFault::Refused) => return no_job(alloc),
+        Err(fault) => return no_job(alloc, input, fault.place(), fault_code(fault)),
     };
     let text = drill(alloc, &plan)?;
     Ok(Answer {
@@ -50,14 +50,20 @@ pub fn answer_to(alloc: Global, input: &[u8]) -> Result<Answer, Memory>
     })
 }
 
-// The answer to an input that is no job.
-fn no_job(alloc: Global) -> Result<Answer, Memory>
+// The answer to an input that is no job, for the fault at this place with the word of this code. The code 0 is
+// that of no word: memory ran out.
+fn no_job(alloc: Global, input: &[u8], at: u32, code: u8) -> Result<Answer, Memory>
+    requires { length input.now ≤ 262144 }
     ensures status { IfOk result (λ answer. answer.status ≡ Status.Job) }
-    ensures text { IfOk result (λ answer. answer.text ≡ codes "job\n") }
+    ensures text { IfOk result (λ answer. answer.text ≡ job_line (wording input.now at code)) }
+    ensures real { IfOk result (λ answer. code ≡ 0 → ⊥) }
 {
+    if code == 0 {
+        return Err(Memory);
+    }
     Ok(Answer {
         status: Status::Job,
-        text: Bytes::from_slice(alloc, b"job\n")?,
+        text: job_line(alloc, input, at, code)?,
     })
 }
 

@@ -9,6 +9,7 @@ pub mod answer;
 pub mod drill;
 pub mod laws;
 pub mod process;
+mod refusal;
 pub mod status;
 pub mod top;
 pub mod words;

@@ -1,14 +1,17 @@
 use Rattle.std.proofs.Common.{◌≡◌, drop, map}
-use Rattle.chare_checker.specs.Expressions.{factor_planned, term_planned}
-use Rattle.chare_checker.specs.Options.{all_some}
-use Rattle.chare_checker.proofs.Gathered.{with_front}
+use Rattle.chare_checker.specs.Notes.{in_order}
+use Rattle.chare_checker.specs.Expressions.{conj_walked, product_term_walked, sum_term_walked, test_walked}
 use Rattle.chare_checker.proofs.expressions.+expressions.Given as goal
 
--- the plans so far, before those of what is left
-abbrev pub invariant-plan_terms-terms : goal.invariant-plan_terms-terms
-invariant-plan_terms-terms l =
-    with_front l.planned (all_some (map (term_planned l.text l.params l.states) (drop l.term-index l.terms))) ≡ all_some (map (term_planned l.text l.params l.states) l.terms)
+-- what is left takes what was noted so far to the whole
+abbrev pub invariant-walk_conjs-loop-conj : goal.invariant-walk_conjs-loop-conj
+invariant-walk_conjs-loop-conj l = in_order (map (conj_walked l.scope.text.now l.scope.table.now l.site l.params l.loops) (drop l.conj-index l.conjs)) l.notes ≡ in_order (map (conj_walked l.scope.text.now l.scope.table.now l.site l.params l.loops) l.conjs) l.fn.notes
 
-abbrev pub invariant-plan_factors-factors : goal.invariant-plan_factors-factors
-invariant-plan_factors-factors l =
-    with_front l.planned (all_some (map (factor_planned l.text l.params l.states) (drop l.factor-index l.factors))) ≡ all_some (map (factor_planned l.text l.params l.states) l.factors)
+abbrev pub invariant-walk_tests-loop-test : goal.invariant-walk_tests-loop-test
+invariant-walk_tests-loop-test l = in_order (map (test_walked l.scope.text.now l.scope.table.now l.site l.params l.loops) (drop l.test-index l.tests)) l.notes ≡ in_order (map (test_walked l.scope.text.now l.scope.table.now l.site l.params l.loops) l.tests) l.fn.notes
+
+abbrev pub invariant-walk_sum_terms-loop-sum_term : goal.invariant-walk_sum_terms-loop-sum_term
+invariant-walk_sum_terms-loop-sum_term l = in_order (map (sum_term_walked l.scope.text.now l.scope.table.now l.site l.params l.loops) (drop l.sum_term-index l.sum_terms)) l.notes ≡ in_order (map (sum_term_walked l.scope.text.now l.scope.table.now l.site l.params l.loops) l.sum_terms) l.fn.notes
+
+abbrev pub invariant-walk_product_terms-loop-product_term : goal.invariant-walk_product_terms-loop-product_term
+invariant-walk_product_terms-loop-product_term l = in_order (map (product_term_walked l.scope.text.now l.scope.table.now l.site l.params l.loops) (drop l.product_term-index l.product_terms)) l.notes ≡ in_order (map (product_term_walked l.scope.text.now l.scope.table.now l.site l.params l.loops) l.product_terms) l.fn.notes

@@ -1,12 +1,13 @@
 use Rattle.std.proofs.Common.{◌≡◌, ◌<◌, length}
 use Rattle.chare_syntax.specs.declared.token.Mark.TheVariants as marks
-use Rattle.chare_syntax.specs.Reading.{many, is_mark, answer_at, answers_at}
+use Rattle.chare_syntax.specs.Readers.{is_mark, many}
+use Rattle.chare_syntax.specs.Reading.{answer_at, answers_at}
 use Rattle.chare_syntax.proofs.Loops.{with_front}
 use Rattle.chare_syntax.proofs.declarations.answers_of.Given as goal
 
 abbrev pub invariant-answers : goal.invariant-answers
 invariant-answers l = record {
-  told : with_front l.answers (many (is_mark marks.Answer) (answer_at) l.rest) ≡ answers_at l.tokens;
+  told : with_front l.answers (many (is_mark marks.Answer) (answer_at l.levels) l.rest) ≡ answers_at l.levels l.tokens;
   shorter : length l.rest < length l.tokens;
 }
 

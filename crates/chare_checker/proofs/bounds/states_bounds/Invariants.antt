@@ -1,0 +1,7 @@
+use Rattle.std.proofs.Common.{◌≡◌, drop}
+use Rattle.chare_checker.specs.Bounds.{state_bound}
+use Rattle.chare_checker.specs.Faults.{first_of}
+use Rattle.chare_checker.proofs.bounds.states_bounds.Given as goal
+
+abbrev pub invariant-loop-state : goal.invariant-loop-state
+invariant-loop-state l = first_of state_bound l.found (drop l.state-index l.states) ≡ first_of state_bound l.fn.found l.states

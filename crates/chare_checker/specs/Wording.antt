@@ -1,0 +1,82 @@
+-- How a fault is told: its line and its column in the text, and a word.
+use Rattle.std.specs.Prelude.{ℕ, suc, Bool, not, ◌==◌, nat_le, if◌then◌else◌, List, [], length, take, reverse, codes}
+use Rattle.std.specs.List.{count_by, take_while}
+use Rattle.chare_syntax.specs.declared.fault.ParseFault.{ParseFault}
+use Rattle.chare_syntax.specs.declared.fault.ParseFault.TheVariants as parses
+use Rattle.chare_checker.specs.declared.fault.CheckFault.{CheckFault}
+use Rattle.chare_checker.specs.declared.fault.CheckFault.TheVariants as checks
+use Rattle.chare_checker.specs.declared.wording.Wording.{Wording}
+
+-- ---- places
+
+-- Only LF ends a line.
+abbrev pub ends_line : ℕ → Bool
+ends_line b = b == 10
+
+-- the line of a place of the text, from 1: one more than lines end before it
+abbrev pub line_of : List ℕ → ℕ → ℕ
+line_of text at = suc (count_by ends_line (take at text))
+
+-- the column, from 1: one more than bytes stand before it in its line
+abbrev pub column_of : List ℕ → ℕ → ℕ
+column_of text at = suc (length (take_while (λ b. not (ends_line b)) (reverse (take at text))))
+
+abbrev pub wording : List ℕ → ℕ → ℕ → Wording
+wording text at code = record { line = line_of text at; column = column_of text at; code = code }
+
+-- ---- words, by their codes
+
+-- where the text is refused, 0 where memory ran out
+abbrev pub parse_place : ParseFault → ℕ
+parse_place (parses.NotToken at) = at
+parse_place (parses.NumberTooLarge at) = at
+parse_place (parses.Unexpected at) = at
+parse_place (parses.TooDeep at) = at
+parse_place (parses.TooLong at) = at
+parse_place parses.Memory = 0
+
+abbrev pub parse_code : ParseFault → ℕ
+parse_code (parses.NotToken at) = 1
+parse_code (parses.NumberTooLarge at) = 2
+parse_code (parses.Unexpected at) = 3
+parse_code (parses.TooDeep at) = 4
+parse_code (parses.TooLong at) = 5
+parse_code parses.Memory = 0
+
+abbrev pub fault_code : CheckFault → ℕ
+fault_code (checks.Twice at) = 6
+fault_code (checks.Unknown at) = 7
+fault_code (checks.Kind at) = 8
+fault_code (checks.Shape at) = 9
+fault_code (checks.NotOnce entry at) = 10
+fault_code (checks.TooEarly entry at) = 11
+fault_code (checks.Overlap name at) = 12
+fault_code (checks.Bound at) = 13
+fault_code (checks.Limit which value at) = 14
+fault_code checks.Plan = 14
+fault_code checks.Memory = 0
+
+abbrev pub parse_word : ℕ → List ℕ
+parse_word code =
+    if code == 1 then codes "token"
+    else (if code == 2 then codes "number"
+    else (if code == 3 then codes "unexpected"
+    else (if code == 4 then codes "deep"
+    else (if code == 5 then codes "long"
+    else []))))
+
+abbrev pub rule_word : ℕ → List ℕ
+rule_word code =
+    if code == 6 then codes "twice"
+    else (if code == 7 then codes "unknown"
+    else (if code == 8 then codes "kind"
+    else (if code == 9 then codes "shape"
+    else (if code == 10 then codes "not-once"
+    else (if code == 11 then codes "too-early"
+    else (if code == 12 then codes "overlap"
+    else (if code == 13 then codes "bound"
+    else (if code == 14 then codes "limit"
+    else []))))))))
+
+abbrev pub word_of : ℕ → List ℕ
+word_of code = if nat_le code 5 then parse_word code else rule_word code

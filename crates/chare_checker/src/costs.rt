@@ -1,0 +1,90 @@
+//! What steps cost.
+
+ghost use Rattle.std.specs.Prelude.{◌≡◌, ◌-ℤ◌};
+ghost use Rattle.chare_checker.specs.Costs.{block_costs, body_cost, numbers_below, parts_cost, signed_value, step_cost, stmt_cost, sum_from};
+
+use chare_syntax::tree::{Block, PartDecl, SignedNum, StepBody, StepDecl, StmtDecl};
+
+/// How many statements a step runs at most, where each loop's turns are counted and each test counts too.
+pub(crate) fn step_cost(step: &StepDecl) -> u64
+    ensures { result ≡ step_cost step.now }
+{
+    body_cost(&step.body)
+}
+
+fn body_cost(body: &StepBody) -> u64
+    ensures { result ≡ body_cost body.now }
+{
+    match body {
+        StepBody::Block(block) => block_cost(0, block),
+        StepBody::Part(part) => block_cost(0, &part.block),
+        StepBody::Overlap { parts, .. } => parts_cost(parts.as_slice()),
+    }
+}
+
+fn parts_cost(parts: &[PartDecl]) -> u64
+    ensures { result ≡ parts_cost 0 parts.now }
+{
+    let mut total = 0;
+    for part in parts {
+        total = block_cost(total, &part.block);
+    }
+    total
+}
+
+// What a block costs, beside a total.
+#[cycle(cost)]
+fn block_cost(total: u64, block: &Block) -> u64
+    ensures { result ≡ sum_from total (block_costs block.now) }
+{
+    let mut cost = total;
+    for stmt in block.statements.as_slice() {
+        cost = cost.saturating_add(stmt_cost(stmt));
+    }
+    cost
+}
+
+#[cycle(cost)]
+fn stmt_cost(stmt: &StmtDecl) -> u64
+    ensures { result ≡ stmt_cost stmt.now }
+{
+    match stmt {
+        StmtDecl::Assign { .. } | StmtDecl::Send { .. } | StmtDecl::Contribute { .. } => 1,
+        StmtDecl::If { block, other, .. } => {
+            let cost = block_cost(1, block);
+            match other {
+                Some(other) => block_cost(cost, other),
+                None => cost,
+            }
+        }
+        StmtDecl::For {
+            low,
+            high,
+            block,
+            ..
+        } => {
+            let turn = block_cost(1, block);
+            turns(signed_value(*low), signed_value(*high))
+                .saturating_mul(turn)
+                .saturating_add(1)
+        }
+    }
+}
+
+// How many turns a loop takes.
+fn turns(low: i64, high: i64) -> u64
+    ensures { result ≡ numbers_below (high -ℤ low) }
+{
+    if low < high { high.abs_diff(low) } else { 0 }
+}
+
+/// A number, which may stand behind a minus.
+pub(crate) fn signed_value(signed: SignedNum) -> i64
+    ensures { result ≡ signed_value signed }
+{
+    let value = signed.number.value.min(9_223_372_036_854_775_807) as i64;
+    match signed.minus {
+        Some(_) => -value,
+        None => value,
+    }
+}

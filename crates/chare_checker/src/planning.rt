@@ -1,0 +1,70 @@
+//! The plan of a job's tree. It is total: where the tree breaks a rule, the plan breaks one too, and no number wraps.
+
+ghost use Rattle.std.specs.Prelude.{◌≡◌, IfOk};
+ghost use Rattle.chare_checker.specs.Planned.{fields_in, planned};
+
+use crate::names::bytes_at;
+use crate::planning::answers::plan_answers;
+use crate::planning::arrays::plan_arrays;
+use crate::planning::members::{plan_entries, plan_reductions};
+use crate::tables::JobNames;
+use chare_base::bytes::Name;
+use chare_base::memory::Memory;
+use chare_base::plan::{Answer, Array, Entry, Reduction};
+use chare_syntax::tree::Job;
+use sqlite_items::Items;
+use std::alloc::Global;
+
+mod answers;
+mod arrays;
+mod expressions;
+mod lookups;
+mod members;
+mod numbers;
+mod statements;
+mod steps;
+
+/// The fields of a plan, before it is known that they keep the rules.
+#[derive(Drop)]
+pub struct PlannedJob {
+    pub name: Name,
+    pub iterations: u64,
+    pub arrays: Items<Array>,
+    pub entries: Items<Entry>,
+    pub reductions: Items<Reduction>,
+    pub answers: Items<Answer>,
+}
+
+/// The plan of a job, whose names are these.
+///
+/// `Memory`: an allocation was refused.
+#[tactic(auto, unfolding(crate::specs::Planned::planned))]
+pub(crate) fn plan_job(
+    alloc: Global,
+    text: &[u8],
+    names: &JobNames,
+    job: &Job,
+) -> Result<PlannedJob, Memory>
+    ensures { IfOk result (λ p. fields_in p ≡ planned text.now names.now job.now) }
+{
+    let declared = job.arrays.as_slice();
+    let name = Name::from_slice(alloc, bytes_at(text, job.name))?;
+    let arrays = plan_arrays(alloc, text, names, declared)?;
+    let entries = plan_entries(alloc, text, &names.arrays, declared)?;
+    let reductions = plan_reductions(alloc, text, declared)?;
+    let answers = plan_answers(
+        alloc,
+        text,
+        names,
+        arrays.as_slice(),
+        job.answers.as_slice(),
+    )?;
+    Ok(PlannedJob {
+        name,
+        iterations: job.iterations.value,
+        arrays,
+        entries,
+        reductions,
+        answers,
+    })
+}

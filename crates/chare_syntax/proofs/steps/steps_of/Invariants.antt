@@ -1,0 +1,15 @@
+use Rattle.std.proofs.Common.{◌≡◌, ◌<◌, length}
+use Rattle.chare_syntax.specs.declared.token.Mark.TheVariants as marks
+use Rattle.chare_syntax.specs.Readers.{is_mark, many}
+use Rattle.chare_syntax.specs.Reading.{step_at, steps_at}
+use Rattle.chare_syntax.proofs.Loops.{with_front}
+use Rattle.chare_syntax.proofs.steps.steps_of.Given as goal
+
+abbrev pub invariant-steps : goal.invariant-steps
+invariant-steps l = record {
+  told : with_front l.steps (many (is_mark marks.Step) (step_at l.levels) l.rest) ≡ steps_at l.levels l.tokens;
+  shorter : length l.rest < length l.tokens;
+}
+
+abbrev pub decreases-steps : goal.decreases-steps
+decreases-steps l = length l.rest

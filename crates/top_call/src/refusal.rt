@@ -1,0 +1,37 @@
+//! The line that tells why an input is no job.
+
+ghost use Rattle.std.specs.Prelude.{◌≡◌, ◌≤◌, ◌++◌, length, IfOk, OnOk};
+ghost use Rattle.std.specs.Fmt.{decimal};
+ghost use Rattle.chare_checker.specs.Wording.{wording};
+ghost use Rattle.top_call.specs.Due.{job_line};
+
+use chare_base::bytes::Bytes;
+use chare_base::memory::Memory;
+use chare_checker::wording::{word, word_at};
+use std::alloc::Global;
+
+/// `job LINE COLUMN WORD` for the fault at this byte of an input, with the word of this code. A place behind the
+/// input's end counts as its end.
+#[tactic(auto, using(crate::proofs::Refusals::cut_place))]
+pub(crate) fn job_line(alloc: Global, input: &[u8], at: u32, code: u8) -> Result<Bytes, Memory>
+    requires { length input.now ≤ 262144 }
+    ensures { IfOk result (λ line. line ≡ job_line (wording input.now at code)) }
+{
+    let wording = word_at(input, at.min(input.len() as u32), code);
+    let mut line = Bytes::from_slice(alloc, b"job ")?;
+    put_number(alloc, &mut line, wording.line)?;
+    line.extend(b" ")?;
+    put_number(alloc, &mut line, wording.column)?;
+    line.extend(b" ")?;
+    line.extend(word(wording.code))?;
+    line.extend(b"\n")?;
+    Ok(line)
+}
+
+// A number in decimal.
+fn put_number(alloc: Global, out: &mut Bytes, number: u32) -> Result<(), Memory>
+    ensures { OnOk result (out.new ≡ out.old ++ decimal number) }
+{
+    let text = number.to_string(alloc)?;
+    out.extend(text.as_bytes())
+}
