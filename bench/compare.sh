@@ -1,7 +1,8 @@
 # Sourced by the scripts beside it: times `acr drill` and the same loops in C, and compares their answers.
-# usage: compare NAME ITERATIONS WORK UNIT    (WORK holds NAME.job and NAME.c; UNIT is what is counted per second)
+# usage: compare NAME ITERATIONS ELEMENTS WORK UNIT
+# WORK holds NAME.job and NAME.c; UNIT is what is counted per second, one for each element in each iteration.
 compare() {
-  local name=$1 iterations=$2 work=$3 unit=$4
+  local name=$1 iterations=$2 elements=$3 work=$4 unit=$5
   local program ours plain
   program=$(cd "$(dirname "${BASH_SOURCE[0]}")" && pwd)/../crates/acr/out/acr
   cc -O2 -o "$work/$name" "$work/$name.c"
@@ -9,7 +10,7 @@ compare() {
   grep '^answer' "$work/out" >"$work/ours"
   plain=$(seconds "$work/$name" "$iterations")
   cmp "$work/ours" "$work/out" && echo "answers agree"
-  echo "$unit per second, both replicas: $(echo "2 * 4096 * $iterations / $ours" | bc)"
+  echo "$unit per second, both replicas: $(echo "2 * $elements * $iterations / $ours" | bc)"
   echo "seconds: acr $ours, C $plain, ratio $(echo "scale=1; $ours / $plain" | bc)"
 }
 

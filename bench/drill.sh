@@ -37,4 +37,4 @@ int main(int count, char **words) {
   printf("answer sum A.s0 %" PRId64 "\nanswer sum A.s7 %" PRId64 "\n", (int64_t)first, (int64_t)last);
 }
 C
-compare bench "$iterations" "$work" element-iterations
+compare bench "$iterations" 4096 "$work" element-iterations

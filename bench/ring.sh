@@ -36,4 +36,4 @@ int main(int count, char **words) {
   printf("answer sum A.t %" PRId64 "\n", (int64_t)sum);
 }
 C
-compare ring "$iterations" "$work" messages
+compare ring "$iterations" 4096 "$work" messages

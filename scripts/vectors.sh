@@ -1,16 +1,26 @@
 #!/usr/bin/env bash
-# Runs the built program on every input NAME.in of a folder and compares its output with NAME.out.
+# Runs the built program on every input NAME.in of a folder and compares its output and status with what is due.
 # usage: scripts/vectors.sh FOLDER    (build the program first: `cd crates/acr && rt run </dev/null`)
+# Due is NAME.out.whole where that is there, else NAME.out; with status 3 for refused_*, else 0. NAME.words, where it is
+# there, has the words after `drill`, one a line. Ends with 1 where a case differs, with 2 where none could be run.
 set -u
+shopt -s nullglob
 folder=${1:-}
 program=$(dirname "$0")/../crates/acr/out/acr
-[ -d "$folder" ] || { echo "skipped: no folder '$folder'"; exit 0; }
-[ -x "$program" ] || { echo "no program at $program: build it first"; exit 2; }
+[ -n "$folder" ] || { echo "usage: scripts/vectors.sh FOLDER" >&2; exit 2; }
+[ -d "$folder" ] || { echo "no folder at $folder" >&2; exit 2; }
+[ -x "$program" ] || { echo "no program at $program: build it first" >&2; exit 2; }
+inputs=("$folder"/*.in)
+[ "${#inputs[@]}" -gt 0 ] || { echo "no input NAME.in in $folder" >&2; exit 2; }
 passed=0 failed=0
-for input in "$folder"/*.in; do
+for input in "${inputs[@]}"; do
+  name=${input%.in} words=()
   case $(basename "$input") in refused_*) want=3 ;; *) want=0 ;; esac
-  got=$("$program" drill <"$input"; echo "status $?")
-  due=$(cat "${input%.in}.out"; echo "status $want")
+  [ ! -e "$name.words" ] || mapfile -t words <"$name.words"
+  out=$name.out
+  [ ! -e "$out.whole" ] || out=$out.whole
+  got=$("$program" drill "${words[@]}" <"$input"; echo "status $?")
+  due=$(cat "$out" && echo "status $want")
   if [ "$got" = "$due" ]; then passed=$((passed + 1)); else failed=$((failed + 1)); echo "differs: $input"; fi
 done
 echo "$passed passed, $failed failed"
