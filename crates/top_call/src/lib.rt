@@ -11,5 +11,7 @@ pub mod laws;
 pub mod process;
 mod refusal;
 pub mod status;
+#[cfg(test)]
+mod tests;
 pub mod top;
 pub mod words;
