@@ -11,7 +11,5 @@ pub mod laws;
 pub mod process;
 mod refusal;
 pub mod status;
-#[cfg(test)]
-mod tests;
 pub mod top;
 pub mod words;
