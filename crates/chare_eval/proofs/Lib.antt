@@ -15,3 +15,4 @@ pub mod Steps
 pub mod Strikes
 pub mod Totals
 pub mod Turns
+pub mod Variables

@@ -187,6 +187,10 @@ scene_of p e iteration payload = record {
   loops = replicate 32 (pos 0);
 }
 
+-- a message of these values
+abbrev pub with_values : List ℤ → Payload
+with_values values = record { count = 8; values = values }
+
 -- what a part of a step does in an iteration, where this payload came with the message that the part needs
 abbrev pub block_runs : Plan → ℕ → ℕ → ℕ → List Stmt → Payload → Effect → Effect
 block_runs p e step iteration stmts payload f =

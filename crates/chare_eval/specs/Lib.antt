@@ -2,6 +2,7 @@ pub mod Value
 pub mod Block
 pub mod Opening
 pub mod Stage
+pub mod Loops
 pub mod Fold
 pub mod Inside
 pub mod Laws

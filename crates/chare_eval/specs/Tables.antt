@@ -8,6 +8,7 @@ use Rattle.chare_base.specs.declared.plan.Array.{Array}
 use Rattle.chare_base.specs.declared.plan.Plan.{Plan}
 use Rattle.chare_base.specs.declared.plan.Reduction.{Reduction}
 use Rattle.chare_base.specs.Elements.{elements, steps_in_round}
+use Rattle.chare_base.specs.Entries.{nothing}
 use Rattle.chare_base.specs.Total.{both}
 use Rattle.chare_eval.specs.declared.effects.Outgoing.{Outgoing}
 use Rattle.chare_eval.specs.declared.effects.Outgoing.TheVariants.{Parcel, Contribution}
@@ -70,6 +71,10 @@ emptied p t = record { boxes = map (λ box. []) t.boxes; tallies = map (no_value
 abbrev pub kept : Tables → ℕ → Port → Option Payload
 kept t e (ports.Entry entry) = letter_at (unwrap_or (slice_get t.boxes e) []) entry.0
 kept t e (ports.Total reduction) = tally_total (slice_get t.tallies reduction.0)
+
+-- the values of a message, 0 where there is none
+abbrev pub values_or_none : Option Payload → List ℤ
+values_or_none message = (unwrap_or message nothing).values
 
 -- what an element finds at each port
 abbrev pub box_of : Plan → Tables → ℕ → Inbox

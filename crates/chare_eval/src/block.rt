@@ -4,7 +4,7 @@ ghost use Rattle.std.specs.Prelude.{◌≡◌, ◌<◌, ◌≤◌, ◌+◌, ◌/
 ghost use Rattle.chare_base.specs.Elements.{elements, place_of, cols_at, cells_of, steps_of, parts_at};
 ghost use Rattle.chare_base.specs.Entries.{target_of};
 ghost use Rattle.chare_eval.specs.declared.value.Scene.{Scene as Scenes};
-ghost use Rattle.chare_eval.specs.Block.{act, block, block_runs, filled_of, in_order, payload_of, quiet, scene_of, slip_after, top_acts, with_loop, written, written_in};
+ghost use Rattle.chare_eval.specs.Block.{act, block, block_runs, filled_of, in_order, payload_of, quiet, scene_of, slip_after, top_acts, with_loop, with_values, written, written_in};
 ghost use Rattle.chare_eval.specs.Value.{least_kind, write};
 
 use crate::arithmetic::{WRITE, least_kind};
@@ -56,6 +56,7 @@ pub fn run_block(
 /// element's place, how many columns its array has, and the part's block.
 ///
 /// `Memory`: an allocation was refused; all is as before. Memory is taken before anything changes.
+#[tactic(auto, unfolding(crate::specs::Block::scene_of))]
 pub fn run_part(
     plan: &Plan,
     e: ElementId,
@@ -75,15 +76,42 @@ pub fn run_part(
     ensures sent { OnOk result (effects.new ≡ effects.old ++ (block_runs plan.now e.0 step iteration block.now payload.now (quiet cells.old)).sent) }
     ensures err { OnErr result ((cells.new ≡ cells.old) × (effects.new ≡ effects.old)) }
 {
+    let mut scene = Scene::new();
+    scene.values = payload.values;
+    run_in(
+        plan, e, place, step, iteration, cols, block, &mut scene, cells, effects,
+    )
+}
+
+// The same in a scene that has the values of the message already, so that one scene serves many parts.
+pub(crate) fn run_in(
+    plan: &Plan,
+    e: ElementId,
+    place: Place,
+    step: u8,
+    iteration: u64,
+    cols: u32,
+    block: &[Stmt],
+    scene: &mut Scene,
+    cells: &mut Cells,
+    effects: &mut Effects,
+) -> Result<(), Memory>
+    requires element { e.0 < elements plan.now }
+    requires place { place ≡ place_of plan.now e.0 }
+    requires cols { cols ≡ cols_at plan.now e.0 }
+    ensures cells { OnOk result (cells.new ≡ (block_runs plan.now e.0 step iteration block.now (with_values scene.old.values) (quiet cells.old)).cells) }
+    ensures sent { OnOk result (effects.new ≡ effects.old ++ (block_runs plan.now e.0 step iteration block.now (with_values scene.old.values) (quiet cells.old)).sent) }
+    ensures err { OnErr result ((cells.new ≡ cells.old) × (effects.new ≡ effects.old)) }
+{
     effects.all.reserve(block.len())?;
-    let mut scene = scene_at(plan, e, place.index, cols, iteration, payload);
+    enter(scene, plan, e, place.index, cols, iteration);
     let mut kind = 0;
     run_top(
         plan,
         e,
         place.index,
         block,
-        &mut scene,
+        scene,
         &mut cells.numbers,
         &mut kind,
         &mut effects.all,
@@ -92,30 +120,27 @@ pub fn run_part(
     Ok(())
 }
 
-// What the element's expressions read beside its cells.
+// The scene becomes an element's in an iteration, where no loop runs yet. The values stay.
 #[tactic(auto, unfolding(crate::specs::Block::scene_of), using(crate::proofs::Scenes::cols_some))]
-pub(crate) fn scene_at(
+pub(crate) fn enter(
+    scene: &mut Scene,
     plan: &Plan,
     e: ElementId,
     index: u32,
     cols: u32,
     iteration: u64,
-    payload: &Payload,
-) -> Scene
+)
     requires index { index ≡ (place_of plan.now e.0).index }
     requires cols { cols ≡ cols_at plan.now e.0 }
-    ensures { result ≡ scene_of plan.now e.0 iteration payload.now }
+    ensures { scene.new ≡ scene_of plan.now e.0 iteration (with_values scene.old.values) }
 {
     let (row, col) = row_and_col(index, cols);
-    Scene {
-        index,
-        row,
-        col,
-        which: 0,
-        iteration,
-        values: payload.values,
-        loops: [0; 32],
-    }
+    scene.index = index;
+    scene.row = row;
+    scene.col = col;
+    scene.which = 0;
+    scene.iteration = iteration;
+    scene.loops.forget();
 }
 
 // The row and the column of an index. In the first row there is nothing to divide.
@@ -249,8 +274,8 @@ fn filled(values: &[Expr], scene: &Scene, cells: &[i64], slip: &mut u8) -> [i64;
     filled
 }
 
-// Writes a value at a place, where there is one.
-fn put(values: &mut [i64], i: usize, value: i64)
+/// Writes a value at a place, where there is one.
+pub(crate) fn put(values: &mut [i64], i: usize, value: i64)
     ensures { values.new ≡ slice_set values.old i value }
 {
     if i < values.len() {
@@ -317,10 +342,7 @@ fn run_one(stmt: &Stmt, scene: &mut Scene, cells: &mut Items<i64>, slip: &mut u8
 fn set_loop(scene: &mut Scene, slot: u8, i: i64)
     ensures { scene.new ≡ record scene.old { loops = slice_set scene.old.loops slot i } }
 {
-    let slot = slot as usize;
-    if slot < scene.loops.len() {
-        scene.loops[slot] = i;
-    }
+    scene.loops.set(slot, i);
 }
 
 // Writes a value into a cell, where there is one.

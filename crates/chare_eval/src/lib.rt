@@ -12,6 +12,7 @@ pub mod arithmetic;
 pub mod block;
 pub mod effects;
 pub mod laws;
+pub mod loops;
 pub mod plain;
 pub mod start;
 mod tables;

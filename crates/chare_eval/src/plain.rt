@@ -10,11 +10,12 @@ ghost use Rattle.chare_eval.specs.Opening.{opening};
 ghost use Rattle.chare_eval.specs.Stage.{parts_run, step_of};
 ghost use Rattle.chare_eval.specs.Tables.{box_of, elements_run, round_runs, rounds_run, steps_run, tables_of};
 
-use crate::block::run_part;
+use crate::block::run_in;
 use crate::effects::Effects;
 use crate::laws::fold_is_shaped;
 use crate::start::start_cells;
 use crate::tables::Mail;
+use crate::value::Scene;
 use chare_base::cells::{Cells, CellsList};
 use chare_base::memory::Memory;
 use chare_base::plan::{Array, ElementId, Part, Place, Plan};
@@ -33,7 +34,13 @@ pub fn plain_run(alloc: Global, plan: &Plan) -> Result<CellsList, Memory>
     let mut all = start_all(alloc, plan)?;
     let mut mail = Mail::new(alloc, plan)?;
     let mut effects = Effects::new(alloc);
-    run_rounds(plan, all.as_mut_slice(), &mut mail, &mut effects)?;
+    run_rounds(
+        plan,
+        all.as_mut_slice(),
+        &mut mail,
+        &mut Scene::new(),
+        &mut effects,
+    )?;
     Ok(CellsList::from_vec(all))
 }
 
@@ -56,13 +63,14 @@ fn run_rounds(
     plan: &Plan,
     all: &mut [Cells],
     mail: &mut Mail,
+    scene: &mut Scene,
     effects: &mut Effects,
 ) -> Result<(), Memory>
     requires { length all.old ≡ elements plan.now }
     ensures { OnOk result (record { states = all.new; tables = tables_of mail.new } ≡ rounds_run plan.now plan.now.iterations (record { states = all.old; tables = tables_of mail.old })) }
 {
     for k in 0..plan.iterations {
-        run_round(plan, k, all, mail, effects)?;
+        run_round(plan, k, all, mail, scene, effects)?;
     }
     Ok(())
 }
@@ -73,13 +81,14 @@ fn run_round(
     k: u64,
     all: &mut [Cells],
     mail: &mut Mail,
+    scene: &mut Scene,
     effects: &mut Effects,
 ) -> Result<(), Memory>
     requires { length all.old ≡ elements plan.now }
     ensures { OnOk result (record { states = all.new; tables = tables_of mail.new } ≡ round_runs plan.now k (record { states = all.old; tables = tables_of mail.old })) }
 {
     mail.begin(plan)?;
-    run_steps(plan, k, all, mail, effects)
+    run_steps(plan, k, all, mail, scene, effects)
 }
 
 // Runs all steps of an iteration.
@@ -89,13 +98,14 @@ fn run_steps(
     k: u64,
     all: &mut [Cells],
     mail: &mut Mail,
+    scene: &mut Scene,
     effects: &mut Effects,
 ) -> Result<(), Memory>
     requires { length all.old ≡ elements plan.now }
     ensures { OnOk result (record { states = all.new; tables = tables_of mail.new } ≡ steps_run plan.now k (steps_in_round plan.now) (record { states = all.old; tables = tables_of mail.old })) }
 {
     for s in 0..plan.steps_in_round() {
-        run_elements(plan, s, k, all, mail, effects)?;
+        run_elements(plan, s, k, all, mail, scene, effects)?;
     }
     Ok(())
 }
@@ -108,6 +118,7 @@ fn run_elements(
     k: u64,
     all: &mut [Cells],
     mail: &mut Mail,
+    scene: &mut Scene,
     effects: &mut Effects,
 ) -> Result<(), Memory>
     requires { length all.old ≡ elements plan.now }
@@ -121,6 +132,7 @@ fn run_elements(
             k,
             mail,
             &mut all[e as usize],
+            scene,
             effects,
         )?;
         mail.deliver(effects.as_slice())?;
@@ -136,6 +148,7 @@ fn run_step(
     k: u64,
     mail: &Mail,
     cells: &mut Cells,
+    scene: &mut Scene,
     effects: &mut Effects,
 ) -> Result<(), Memory>
     requires { e.0 < elements plan.now }
@@ -154,6 +167,7 @@ fn run_step(
         parts_of(array, s),
         mail,
         cells,
+        scene,
         effects,
     )
 }
@@ -169,6 +183,7 @@ fn parts_of(array: &Array, s: u8) -> &[Part]
 }
 
 // Runs parts in order, each with what it needs.
+#[tactic(auto, unfolding(crate::specs::Block::scene_of))]
 fn run_parts(
     plan: &Plan,
     e: ElementId,
@@ -179,6 +194,7 @@ fn run_parts(
     parts: &[Part],
     mail: &Mail,
     cells: &mut Cells,
+    scene: &mut Scene,
     effects: &mut Effects,
 ) -> Result<(), Memory>
     requires element { e.0 < elements plan.now }
@@ -187,9 +203,9 @@ fn run_parts(
     ensures { OnOk result (record { cells = cells.new; sent = effects.new } ≡ parts_run plan.now e.0 s k (box_of plan.now (tables_of mail.now) e.0) parts.now (record { cells = cells.old; sent = effects.old })) }
 {
     for part in parts {
-        let payload = mail.given(plan, e, place.index, part.need);
+        mail.give(plan, e, place.index, part.need, &mut scene.values);
         let block = part.block.as_slice();
-        run_part(plan, e, place, s, k, cols, block, &payload, cells, effects)?;
+        run_in(plan, e, place, s, k, cols, block, scene, cells, effects)?;
     }
     Ok(())
 }

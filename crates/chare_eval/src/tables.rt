@@ -4,9 +4,9 @@ ghost use Rattle.std.specs.Prelude.{◌≡◌, ◌<◌, ◌++◌, ◌∷◌, [],
 ghost use Rattle.std.specs.Option.{option_map_or};
 ghost use Rattle.chare_base.specs.Sizes.{size_of};
 ghost use Rattle.chare_base.specs.Elements.{elements, place_of};
-ghost use Rattle.chare_base.specs.Entries.{nothing, source_of};
+ghost use Rattle.chare_base.specs.Entries.{source_of};
 ghost use Rattle.chare_eval.specs.Stage.{found_at, given, total_payload};
-ghost use Rattle.chare_eval.specs.Tables.{add_in, all_delivered, box_of, delivered, emptied, letter_at, no_value, put_in, tables_of, tally_total, with_value};
+ghost use Rattle.chare_eval.specs.Tables.{add_in, all_delivered, box_of, delivered, emptied, letter_at, no_value, put_in, tables_of, tally_total, values_or_none, with_value};
 
 use crate::effects::Outgoing;
 use chare_base::memory::Memory;
@@ -60,23 +60,23 @@ impl LetterBox {
         Ok(())
     }
 
-    // The message at an entry. An element's letters are as many as its array's entries at most.
-    fn letter_at(&self, entry: EntryId) -> Option<Payload>
-        ensures { result ≡ letter_at self.now entry.0 }
+    // The values of the message at an entry. An element's letters are as many as its array's entries at most.
+    fn values_at(&self, entry: EntryId) -> [i64; 8]
+        ensures { result ≡ values_or_none (letter_at self.now entry.0) }
     {
-        letter_among(self.letters.as_slice(), entry)
+        values_among(self.letters.as_slice(), entry)
     }
 }
 
-fn letter_among(letters: &[Letter], entry: EntryId) -> Option<Payload>
-    ensures { result ≡ letter_at letters.now entry.0 }
+fn values_among(letters: &[Letter], entry: EntryId) -> [i64; 8]
+    ensures { result ≡ values_or_none (letter_at letters.now entry.0) }
 {
     for letter in letters {
         if letter.entry.0 == entry.0 {
-            return Some(letter.payload);
+            return letter.payload.values;
         }
     }
-    None
+    [0; 8]
 }
 
 /// What was contributed to a reduction.
@@ -209,23 +209,27 @@ impl Mail {
         Ok(())
     }
 
-    /// What a part of the element at an index of its array gets of what it needs.
-    pub(crate) fn given(&self, plan: &Plan, e: ElementId, index: u32, need: Need) -> Payload
+    /// The values that a part of the element at an index of its array gets of what it needs.
+    pub(crate) fn give(
+        &self,
+        plan: &Plan,
+        e: ElementId,
+        index: u32,
+        need: Need,
+        values: &mut [i64; 8],
+    )
         requires element { e.0 < elements plan.now }
         requires index { index ≡ (place_of plan.now e.0).index }
-        ensures { result ≡ given need (box_of plan.now (tables_of self.now) e.0) }
+        ensures { values.new ≡ (given need (box_of plan.now (tables_of self.now) e.0)).values }
     {
-        match need {
-            Need::Nothing => Payload::NONE,
+        *values = match need {
+            Need::Nothing => [0; 8],
             Need::Port(Port::Entry(entry)) => match source(plan, entry, e, index) {
-                Source::Element(_) => or_none(letter_to(self.boxes.as_slice(), e, entry)),
-                Source::Edge(payload) => payload,
+                Source::Element(_) => values_to(self.boxes.as_slice(), e, entry),
+                Source::Edge(payload) => payload.values,
             },
-            Need::Port(Port::Total(reduction)) => or_none(total(
-                self.tallies.as_slice(),
-                reduction,
-            )),
-        }
+            Need::Port(Port::Total(reduction)) => total(self.tallies.as_slice(), reduction),
+        };
     }
 }
 
@@ -243,30 +247,24 @@ fn source(plan: &Plan, entry: EntryId, e: ElementId, index: u32) -> Source
     }
 }
 
-fn or_none(payload: Option<Payload>) -> Payload
-    ensures { result ≡ unwrap_or payload nothing }
-{
-    match payload {
-        Some(payload) => payload,
-        None => Payload::NONE,
-    }
-}
-
-// The message that came to an element at an entry.
-fn letter_to(boxes: &[LetterBox], e: ElementId, entry: EntryId) -> Option<Payload>
-    ensures { result ≡ letter_at (unwrap_or (slice_get boxes.now e.0) []) entry.0 }
+// The values of the message that came to an element at an entry.
+fn values_to(boxes: &[LetterBox], e: ElementId, entry: EntryId) -> [i64; 8]
+    ensures { result ≡ values_or_none (letter_at (unwrap_or (slice_get boxes.now e.0) []) entry.0) }
 {
     match boxes.get(e.0 as usize) {
-        Some(found) => found.letter_at(entry),
-        None => None,
+        Some(found) => found.values_at(entry),
+        None => [0; 8],
     }
 }
 
-// The total of a reduction, once it is there.
-fn total(tallies: &[Tally], reduction: ReductionId) -> Option<Payload>
-    ensures { result ≡ tally_total (slice_get tallies.now reduction.0) }
+// The total of a reduction as values, once it is there.
+fn total(tallies: &[Tally], reduction: ReductionId) -> [i64; 8]
+    ensures { result ≡ values_or_none (tally_total (slice_get tallies.now reduction.0)) }
 {
-    total_of(tallies.get(reduction.0 as usize).copied())
+    match total_of(tallies.get(reduction.0 as usize).copied()) {
+        Some(payload) => payload.values,
+        None => [0; 8],
+    }
 }
 
 // Puts a letter into a box, where there is such a box.

@@ -1,5 +1,6 @@
 //! Expressions: values, and the slips on the way to them.
 
+use crate::loops::Loops;
 use crate::value::{Scene, value};
 use chare_base::expression::{AddOp, CompareOp, Expr, Factor, MulOp, Term};
 use chare_base::memory::Memory;
@@ -48,19 +49,22 @@ fn cell_at(alloc: Global, place: i64) -> Result<Expr, Memory> {
 
 // ---- expressions
 
-const SCENE: Scene = Scene {
-    index: 5,
-    row: 1,
-    col: 2,
-    which: 3,
-    iteration: 9,
-    values: [10, 20, 0, 0, 0, 0, 0, 0],
-    loops: [0; 32],
-};
+// What the expressions read.
+fn scene() -> Scene {
+    Scene {
+        index: 5,
+        row: 1,
+        col: 2,
+        which: 3,
+        iteration: 9,
+        values: [10, 20, 0, 0, 0, 0, 0, 0],
+        loops: Loops::new(),
+    }
+}
 
 // An expression over the cells 4 and 6 computes a value, with a kind of slip.
 fn computes(rt: &impl Abort, e: Expr, expected: i64, slip: u8) {
-    let computed = value(&e, &SCENE, &[4, 6]);
+    let computed = value(&e, &scene(), &[4, 6]);
     assert_eq!(rt; computed.value, expected);
     assert_eq!(rt; computed.slip, slip);
 }

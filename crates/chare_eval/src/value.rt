@@ -1,13 +1,14 @@
 //! What expressions compute.
 
-ghost use Rattle.std.specs.Prelude.{◌≡◌, map, slice_get, true, false};
+ghost use Rattle.std.specs.Prelude.{◌≡◌, map, pos, replicate, slice_get, true, false};
 ghost use Rattle.chare_eval.specs.Value.{after, all_from, any_from, cell_found, cell_in, factor_of, number_at, product_from, sum_from, term_of, value_of};
 
 use crate::arithmetic::{READ, least_kind};
+use crate::loops::Loops;
 use chare_base::expression::{Expr, Factor, Term};
 
 /// What an expression reads beside the cells.
-#[derive(Clone, Copy, Debug, PartialEq, Eq)]
+#[derive(Drop)]
 pub struct Scene {
     /// The element's index in its array.
     pub index: u32,
@@ -20,7 +21,24 @@ pub struct Scene {
     /// The values that came with the message that the part needs; 0 where none came.
     pub values: [i64; 8],
     /// The variables of the loops, the outermost first.
-    pub loops: [i64; 32],
+    pub loops: Loops,
+}
+
+impl Scene {
+    /// A scene in which all is 0.
+    pub const fn new() -> Scene
+        ensures { result ≡ record { index = 0; row = 0; col = 0; which = 0; iteration = 0; values = replicate 8 (pos 0); loops = replicate 32 (pos 0) } }
+    {
+        Scene {
+            index: 0,
+            row: 0,
+            col: 0,
+            which: 0,
+            iteration: 0,
+            values: [0; 8],
+            loops: Loops::new(),
+        }
+    }
 }
 
 /// A value, and the least kind of slip on the way to it: 0 where there was none.
@@ -44,7 +62,7 @@ pub fn value(e: &Expr, scene: &Scene, cells: &[i64]) -> Computed
             place,
         } => cell_at(cells, *at, *count, operand(place.get(), scene, cells)),
         Expr::Mail(at) => Computed::clean(number_at(&scene.values, *at)),
-        Expr::Loop(slot) => Computed::clean(number_at(&scene.loops, *slot)),
+        Expr::Loop(slot) => Computed::clean(scene.loops.get(*slot)),
         Expr::Index => Computed::clean(i64::from(scene.index)),
         Expr::Row => Computed::clean(i64::from(scene.row)),
         Expr::Col => Computed::clean(i64::from(scene.col)),
@@ -92,7 +110,7 @@ fn operand(e: &Expr, scene: &Scene, cells: &[i64]) -> Computed
         Expr::Number(number) => Computed::clean(*number),
         Expr::Cell(at) => cell(cells, *at as usize),
         Expr::Mail(at) => Computed::clean(number_at(&scene.values, *at)),
-        Expr::Loop(slot) => Computed::clean(number_at(&scene.loops, *slot)),
+        Expr::Loop(slot) => Computed::clean(scene.loops.get(*slot)),
         Expr::Index => Computed::clean(i64::from(scene.index)),
         Expr::Row => Computed::clean(i64::from(scene.row)),
         Expr::Col => Computed::clean(i64::from(scene.col)),
@@ -160,8 +178,8 @@ fn any(operands: &[Expr], scene: &Scene, cells: &[i64]) -> Computed
     }
 }
 
-// The number at a place, or 0 where there is none.
-fn number_at(numbers: &[i64], at: u8) -> i64
+/// The number at a place, or 0 where there is none.
+pub(crate) fn number_at(numbers: &[i64], at: u8) -> i64
     ensures { result ≡ number_at numbers.now at }
 {
     numbers.get(at as usize).copied().unwrap_or(0)

@@ -1,0 +1,8 @@
+-- The variables of loops, of which so many were written.
+use Rattle.std.specs.Prelude.{ℕ, zero, suc, ℤ, pos, List, [], ◌∷◌, map}
+
+-- the first so many of these numbers, and 0 for each of the others
+abbrev pub shown : ℕ → List ℤ → List ℤ
+shown written [] = []
+shown zero (x ∷ more) = pos 0 ∷ shown zero more
+shown (suc written) (x ∷ more) = x ∷ shown written more
