@@ -1,4 +1,5 @@
 pub mod Apart
+pub mod Blocks
 pub mod Covered
 pub mod Exchanges
 pub mod Facts

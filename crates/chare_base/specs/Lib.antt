@@ -10,6 +10,7 @@ pub mod Uses
 pub mod Overlap
 pub mod Rules
 pub mod Elements
+pub mod Placing
 pub mod Entries
 pub mod Laws
 pub mod Total

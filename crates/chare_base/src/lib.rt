@@ -24,10 +24,10 @@ pub mod laws;
 pub mod limits;
 pub mod message;
 pub mod options;
+pub mod placement;
 pub mod plan;
 pub mod range;
 pub mod rules;
 pub mod scope;
-#[cfg(test)]
-mod tests;
+pub mod slots;
 pub mod total;

@@ -17,8 +17,6 @@ pub mod parse;
 pub mod reader;
 mod statements;
 mod steps;
-#[cfg(test)]
-mod tests;
 pub mod token;
 pub mod tree;
 pub mod words;
