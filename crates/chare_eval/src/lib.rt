@@ -16,6 +16,4 @@ pub mod loops;
 pub mod plain;
 pub mod start;
 mod tables;
-#[cfg(test)]
-mod tests;
 pub mod value;

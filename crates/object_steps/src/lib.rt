@@ -12,5 +12,3 @@ pub mod laws;
 pub mod object;
 pub mod partial;
 pub mod ready;
-#[cfg(test)]
-mod tests;
