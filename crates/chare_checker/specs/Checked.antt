@@ -1,10 +1,10 @@
 -- The first rule that a tree breaks, and the plan of a tree that breaks none.
-use Rattle.std.specs.Prelude.{◌≡◌, ℕ, not, List, [], Result, Ok, Err, Some, None}
-use Rattle.std.specs.Option.{option_or}
+use Rattle.std.specs.Prelude.{◌≡◌, ℕ, Bool, IsTrue, List, [], length, Result, Ok, Err, Some, None}
 use Rattle.chare_base.specs.declared.plan.Plan.{Plan}
 use Rattle.chare_base.specs.Elements.{Fields, fields_of}
 use Rattle.chare_base.specs.Rules.{rules_hold}
 use Rattle.chare_syntax.specs.declared.tree.Job.{Job}
+use Rattle.chare_syntax.specs.Accepted.{is_filled, is_shallow, names_lie}
 use Rattle.chare_checker.specs.declared.fault.CheckFault.{CheckFault}
 use Rattle.chare_checker.specs.declared.fault.CheckFault.TheVariants as faults
 use Rattle.chare_checker.specs.declared.notes.Notes.{Notes}
@@ -12,7 +12,7 @@ use Rattle.chare_checker.specs.declared.tables.JobNames.{JobNames}
 use Rattle.chare_checker.specs.Answers.{answers_found}
 use Rattle.chare_checker.specs.Bounds.{bounds_found}
 use Rattle.chare_checker.specs.Declarations.{declarations_found}
-use Rattle.chare_checker.specs.Faults.{Found, fault_if, nothing}
+use Rattle.chare_checker.specs.Faults.{Found, nothing}
 use Rattle.chare_checker.specs.Limits.{limits_found}
 use Rattle.chare_checker.specs.Planned.{planned}
 use Rattle.chare_checker.specs.Ports.{ports_found}
@@ -30,17 +30,23 @@ after_walk text names job n =
 unfoldable pub classes_found : List ℕ → JobNames → Job → Found
 classes_found text names job = after_walk text names job (job_walked text names job nothing_noted)
 
--- the fields are no plan's
-abbrev pub unsealed : Fields → Found
-unsealed f = fault_if (not (rules_hold f.name f.iterations f.arrays f.entries f.reductions f.answers)) faults.Plan
-
 -- the first rule that a tree breaks
 unfoldable pub first_fault : List ℕ → Job → Found
-first_fault text job = option_or (classes_found text (job_names text job) job) (unsealed (planned text (job_names text job) job))
+first_fault text job = classes_found text (job_names text job) job
 
 -- the plan of a tree
 unfoldable pub plan_of : List ℕ → Job → Fields
 plan_of text job = planned text (job_names text job) job
+
+-- these fields keep the rules of a plan's type
+abbrev pub rules_of : Fields → Bool
+rules_of f = rules_hold f.name f.iterations f.arrays f.entries f.reductions f.answers
+
+-- A tree that opens 32 levels at most, whose names lie in the text and whose lists have their items, as that of an `Ast`, has a plan
+-- that keeps the rules of a plan's type, where no class of rules is broken.
+abbrev pub UnbrokenIsSealed : Type 0
+UnbrokenIsSealed = (text : List ℕ) (job : Job) → IsTrue (is_shallow 32 job) → IsTrue (names_lie (length text) job) → IsTrue (is_filled job) →
+    first_fault text job ≡ nothing → IsTrue (rules_of (plan_of text job))
 
 -- what a check answers: a plan exactly where no rule is broken, else the first broken rule, unless memory ran out
 abbrev pub Checks : List ℕ → Job → Result Plan CheckFault → Type 0

@@ -1,9 +1,8 @@
 //! The plan of a tree, or the first rule that it breaks.
 
-ghost use Rattle.std.specs.Prelude.{◌≡◌, IfOk, IfErr, IfSome, IsSome, IsTrue, ◌↔◌};
+ghost use Rattle.std.specs.Prelude.{◌≡◌, IfOk, IsTrue};
 ghost use Rattle.chare_base.specs.Elements.{fields_of};
-ghost use Rattle.chare_base.specs.Rules.{rules_hold};
-ghost use Rattle.chare_checker.specs.Checked.{Checks, classes_found, first_fault};
+ghost use Rattle.chare_checker.specs.Checked.{Checks, classes_found, rules_of};
 ghost use Rattle.chare_checker.specs.Planned.{fields_in};
 
 use crate::answers::answers_fault;
@@ -23,6 +22,8 @@ use std::alloc::Global;
 
 /// The plan of a tree that breaks no rule, or the first rule that it breaks: of the first class that has one, at
 /// its least place.
+///
+/// The plan of a tree that breaks no rule keeps the rules of its type, so nothing but the classes is refused.
 pub fn check(alloc: Global, ast: &Ast) -> Result<Plan, CheckFault>
     ensures { Checks ast.now.text ast.now.job result }
 {
@@ -30,17 +31,14 @@ pub fn check(alloc: Global, ast: &Ast) -> Result<Plan, CheckFault>
     let names = JobNames::of(alloc, text, &ast.job)?;
     match classes_fault(alloc, text, &names, &ast.job)? {
         Some(fault) => Err(fault),
-        None => match sealed(plan_job(alloc, text, &names, &ast.job)?) {
-            Some(plan) => Ok(plan),
-            None => Err(CheckFault::Plan),
-        },
+        None => Ok(sealed(plan_job(alloc, text, &names, &ast.job)?)),
     }
 }
 
-// A plan of these fields, where they keep the rules of its type.
-fn sealed(planned: PlannedJob) -> Option<Plan>
-    ensures holds { IsSome result ↔ IsTrue (rules_hold planned.name planned.iterations planned.arrays planned.entries planned.reductions planned.answers) }
-    ensures fields { IfSome result (λ p. fields_of p ≡ fields_in planned) }
+// The plan of these fields, which keep the rules of its type.
+fn sealed(planned: PlannedJob) -> Plan
+    requires { IsTrue (rules_of (fields_in planned)) }
+    ensures { fields_of result ≡ fields_in planned }
 {
     Plan::sealed(
         planned.name,
@@ -50,6 +48,7 @@ fn sealed(planned: PlannedJob) -> Option<Plan>
         planned.reductions,
         planned.answers,
     )
+    .unwrap()
 }
 
 // Of all rules that a tree breaks, the one that is named.

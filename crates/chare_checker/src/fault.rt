@@ -90,7 +90,8 @@ pub enum CheckFault {
         value: u64,
         at: u32,
     },
-    /// The plan breaks a rule that its type keeps, though no class of rules names it. No text is known that does.
+    /// The plan breaks a rule that its type keeps, though no class of rules names it. No check answers it: the plan of a
+    /// tree that breaks no rule is sealed (`laws::unbroken_is_sealed`).
     #[error("the plan breaks a rule")]
     Plan,
     /// An allocation was refused.

@@ -11,4 +11,8 @@ pub mod OfExpressions
 pub mod OfStatements
 pub mod OfDeclarations
 pub mod Texts
+pub mod Named
+pub mod Filled
+pub mod Parts
+pub mod Nested
 pub mod Loops

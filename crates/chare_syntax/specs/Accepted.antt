@@ -1,17 +1,18 @@
 -- Which tokens are a job, and the fault of those that are none.
-use Rattle.std.specs.Prelude.{◌≡◌, ℕ, Bool, nat_le, true, ◌<◌, ◌≤◌, List, [], ◌∷◌, ◌++◌, length}
+use Rattle.std.specs.Prelude.{◌≡◌, ℕ, ◌+◌, Bool, nat_le, nat_lt, ◌&&◌, true, ◌<◌, ◌≤◌, List, [], ◌∷◌, ◌++◌, length}
 use Rattle.std.specs.List.{AllByRecursion, list_all}
 use Rattle.chare_syntax.specs.declared.fault.ParseFault.{ParseFault}
 use Rattle.chare_syntax.specs.declared.fault.ParseFault.TheVariants as faults
 use Rattle.chare_syntax.specs.declared.token.Kind.{Kind}
 use Rattle.chare_syntax.specs.declared.token.Kind.TheVariants as kinds
+use Rattle.chare_syntax.specs.declared.token.Span.{Span}
 use Rattle.chare_syntax.specs.declared.token.Token.{Token}
 use Rattle.chare_syntax.specs.declared.tree.ArrayDecl.{ArrayDecl}
 use Rattle.chare_syntax.specs.declared.tree.Job.{Job}
 use Rattle.chare_syntax.specs.declared.tree.StepBody.{StepBody}
 use Rattle.chare_syntax.specs.declared.tree.StepBody.TheVariants as bodies
 use Rattle.chare_syntax.specs.declared.tree.StepDecl.{StepDecl}
-use Rattle.chare_syntax.specs.Word.{Word, level_of, Is}
+use Rattle.chare_syntax.specs.Word.{Word, Name, level_of, Is}
 use Rattle.chare_syntax.specs.Spelling.{job_spelling}
 use Rattle.chare_syntax.specs.Tokens.{is_last}
 
@@ -66,6 +67,34 @@ OneJob = (tokens : List Token) (a b : Job) → IsJob tokens a → IsJob tokens b
 -- a tree opens no level above the last one
 unfoldable pub is_shallow : ℕ → Job → Bool
 is_shallow last job = list_all (λ w. nat_le (level_of w) last) (job_spelling job 0)
+
+-- a name has at least one byte, and lies in a text of n bytes
+abbrev pub span_lies : ℕ → Span → Bool
+span_lies n span = nat_le 1 span.len && nat_le (span.at + span.len) n
+
+-- a word that is a name lies in a text of n bytes
+abbrev pub word_lies : ℕ → Word → Bool
+word_lies n (Name span) = span_lies n span
+word_lies n _ = true
+
+-- each name of a tree, declared or used, has at least one byte, and lies in a text of n bytes
+unfoldable pub names_lie : ℕ → Job → Bool
+names_lie n job = list_all (word_lies n) (job_spelling job 0)
+
+-- the same as tests: an overlap has two parts
+abbrev pub body_is_filled : StepBody → Bool
+body_is_filled (bodies.Overlap at parts) = nat_lt 1 (length parts)
+body_is_filled _ = true
+
+abbrev pub step_is_filled : StepDecl → Bool
+step_is_filled s = body_is_filled s.body
+
+abbrev pub array_is_filled : ArrayDecl → Bool
+array_is_filled a = nat_lt 0 (length a.states) && nat_lt 0 (length a.steps) && list_all step_is_filled a.steps
+
+-- the lists of a tree have their items
+unfoldable pub is_filled : Job → Bool
+is_filled j = nat_lt 0 (length j.arrays) && list_all array_is_filled j.arrays && nat_lt 0 (length j.answers)
 
 -- ---- faults
 

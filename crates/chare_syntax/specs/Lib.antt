@@ -5,6 +5,7 @@ pub mod Fault
 pub mod Readers
 pub mod Word
 pub mod Spelling
+pub mod Nesting
 pub mod Reading
 pub mod Accepted
 pub mod Text

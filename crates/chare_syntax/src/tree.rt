@@ -3,19 +3,24 @@
 //! Places are byte offsets in the text. Each node that begins with a word or a symbol has its place as
 //! `at`; the others begin with a name, a number or another node, whose place is theirs.
 
-ghost use Rattle.std.specs.Prelude.{IsTrue};
-ghost use Rattle.chare_syntax.specs.Accepted.{is_shallow};
+ghost use Rattle.std.specs.Prelude.{IsTrue, length};
+ghost use Rattle.chare_syntax.specs.Accepted.{is_filled, is_shallow, names_lie};
 
 use crate::token::{Num, Span};
 use chare_bytes::bytes::Bytes;
 use sqlite_items::{Boxed, Items};
 
-/// A text and its tree, which opens 32 levels of nesting at most.
+/// A text and its tree.
 #[derive(Drop)]
 pub struct Ast {
     pub text: Bytes,
     pub job: Job,
+    /// The tree opens 32 levels of nesting at most.
     pub ghost shallow: { IsTrue (is_shallow 32 job) },
+    /// Each name of the tree has at least one byte, and lies in the text.
+    pub ghost named: { IsTrue (names_lie (length text) job) },
+    /// The tree has an array and an answer, each array a state and a step, and each overlap two parts, at least.
+    pub ghost filled: { IsTrue (is_filled job) },
 }
 
 /// `job NAME iterate NUM array.. answer..`, with at least one array and one answer.
