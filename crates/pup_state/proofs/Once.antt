@@ -21,7 +21,7 @@ one_field width x y r s h k e =
     (same, append_cancel_left (field width x) r s (e ∙ ap (λ z. field width z ++ s) (sym same)))
 
 -- a cell's bits are below 64 bits, and tell the cell
-bits_few : (x : ℤ) → FitsSigned w64 x → cast_unsigned w64 x < 2 ^ 64
+pub bits_few : (x : ℤ) → FitsSigned w64 x → cast_unsigned w64 x < 2 ^ 64
 bits_few (pos n) h = omega arith
 bits_few (negsuc n) h = omega arith
 
@@ -44,21 +44,21 @@ flat : (a b c d f g h i r : List ℕ) → (a ++ (b ++ (c ++ (d ++ (f ++ (g ++ (h
 flat a b c d f g h i r = simp append_assoc
 
 -- a record's fields, and what follows it
-abbrev fields : ℕ → ℕ → ℕ → Cells → List ℕ → List ℕ
+abbrev pub fields : ℕ → ℕ → ℕ → Cells → List ℕ → List ℕ
 fields array index done cells r =
     field 2 array ++ (field 4 index ++ (field 8 done ++ (field 1 cells.slip.kind ++ (field 1 cells.slip.step
     ++ (field 8 cells.slip.iteration ++ (field 4 (length cells.numbers) ++ (cells_spelling cells.numbers ++ r)))))))
 
-fields_of : (p : Plan) (e done : ℕ) (cells : Cells) (r : List ℕ) → record_spelling p e done cells ++ r ≡ fields (place_of p e).array (place_of p e).index done cells r
+pub fields_of : (p : Plan) (e done : ℕ) (cells : Cells) (r : List ℕ) → record_spelling p e done cells ++ r ≡ fields (place_of p e).array (place_of p e).index done cells r
 unfolding record_spelling
 fields_of p e done cells r =
     flat (field 2 (place_of p e).array) (field 4 (place_of p e).index) (field 8 done) (field 1 cells.slip.kind) (field 1 cells.slip.step)
     (field 8 cells.slip.iteration) (field 4 (length cells.numbers)) (cells_spelling cells.numbers) r
 
-abbrev made : List ℤ → ℕ → ℕ → ℕ → Cells
+abbrev pub made : List ℤ → ℕ → ℕ → ℕ → Cells
 made numbers kind step iteration = record { numbers = numbers; slip = record { kind = kind; step = step; iteration = iteration } }
 
-same_cells : (a b : Cells) → a.numbers ≡ b.numbers → a.slip.kind ≡ b.slip.kind → a.slip.step ≡ b.slip.step → a.slip.iteration ≡ b.slip.iteration → a ≡ b
+pub same_cells : (a b : Cells) → a.numbers ≡ b.numbers → a.slip.kind ≡ b.slip.kind → a.slip.step ≡ b.slip.step → a.slip.iteration ≡ b.slip.iteration → a ≡ b
 same_cells a b n k s i =
     ap (λ z. made z a.slip.kind a.slip.step a.slip.iteration) n ∙ ap (λ z. made b.numbers z a.slip.step a.slip.iteration) k
     ∙ ap (λ z. made b.numbers b.slip.kind z a.slip.iteration) s ∙ ap (λ z. made b.numbers b.slip.kind b.slip.step z) i

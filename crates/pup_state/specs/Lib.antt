@@ -1,3 +1,5 @@
 pub mod Spelling
-pub mod Verdicts
+pub mod Packs
+pub mod Faults
+pub mod Reading
 pub mod Laws

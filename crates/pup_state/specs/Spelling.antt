@@ -1,10 +1,10 @@
 -- How states are spelled as bytes. All numbers have the lowest byte first.
-use Rattle.std.specs.Prelude.{ℕ, suc, ℤ, List, [], ◌∷◌, ◌++◌, length, codes}
+use Rattle.std.specs.Prelude.{ℕ, suc, ◌+◌, ◌*◌, ℤ, List, [], ◌∷◌, ◌++◌, length, codes, slice_index_or}
 use Rattle.std.specs.Int.{w64, cast_unsigned}
 use Rattle.byteorder.specs.Endian.{little_bytes}
 use Rattle.chare_base.specs.declared.cells.Cells.{Cells}
 use Rattle.chare_base.specs.declared.plan.Plan.{Plan}
-use Rattle.chare_base.specs.Elements.{place_of}
+use Rattle.chare_base.specs.Elements.{cells_of, place_of}
 
 -- a number in `width` bytes
 unfoldable pub field : ℕ → ℕ → List ℕ
@@ -28,6 +28,10 @@ record_spelling p e done cells =
     ++ (field 4 (length cells.numbers)
     ++ cells_spelling cells.numbers))))))
 
+-- how many bytes an element's record has
+abbrev pub size_of : Plan → ℕ → ℕ
+size_of p e = 28 + 8 * cells_of p e
+
 -- the records of these elements, the first of which has the given number
 abbrev pub records_from : Plan → ℕ → ℕ → List Cells → List ℕ
 records_from p done e [] = []
@@ -40,3 +44,12 @@ head count = codes "ACR1" ++ field 4 count
 -- the checkpoint of all elements after `done` completed iterations
 unfoldable pub pack : Plan → ℕ → List Cells → List ℕ
 pack p done all = head (length all) ++ records_from p done 0 all
+
+-- an element's state, no cells where there is no such element
+abbrev pub cells_at : List Cells → ℕ → Cells
+cells_at all e = slice_index_or all e (record { numbers = []; slip = record { kind = 0; step = 0; iteration = 0 } })
+
+-- the records of these elements, one after another: what a piece holds
+abbrev pub records_of : Plan → ℕ → List Cells → List ℕ → List ℕ
+records_of p done all [] = []
+records_of p done all (e ∷ more) = record_spelling p e done (cells_at all e) ++ records_of p done all more

@@ -1,27 +1,22 @@
-//! Whether two checkpoints are equal.
+//! Verdicts on two replicas' states, and whether two checkpoints are equal.
 
-ghost use Rattle.std.specs.Prelude.{◌≡◌, ◌↔◌};
-ghost use Rattle.pup_state.specs.Verdicts.{verdict_of};
+ghost use Rattle.std.specs.Prelude.{◌≡◌, ◌↔◌, IsTrue};
 
 use chare_base::bytes::Bytes;
+use chare_base::plan::ElementId;
 
-/// What the comparison of two checkpoints says.
+/// What the comparison of two pieces of one node says, one piece of each replica.
 #[derive(Clone, Copy, Debug, PartialEq, Eq)]
 pub enum Verdict {
     /// They are equal, byte for byte.
     Equal,
-    /// Some byte or the length differs.
-    Differ,
+    /// They differ, and this is the least element whose records differ.
+    Differ { element: ElementId },
 }
 
-/// Compares two checkpoints byte for byte, which takes no memory.
-pub fn compare(a: &Bytes, b: &Bytes) -> Verdict
-    ensures exact { result ≡ verdict_of a.now b.now }
-    ensures equal { (result ≡ Verdict.Equal) ↔ (a.now ≡ b.now) }
+/// Whether two checkpoints are equal, byte for byte. It takes no memory.
+pub fn equal(a: &Bytes, b: &Bytes) -> bool
+    ensures { IsTrue result ↔ (a.now ≡ b.now) }
 {
-    if a.as_slice() == b.as_slice() {
-        Verdict::Equal
-    } else {
-        Verdict::Differ
-    }
+    a.as_slice() == b.as_slice()
 }
