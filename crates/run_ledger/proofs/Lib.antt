@@ -1,1 +1,12 @@
+mod Bits
+mod Counts
+mod Bare
+mod Folds
+mod Lineages
+mod Spending
+mod Counting
+mod Allowed
+mod Following
+mod OneReplica
+mod Right
 pub mod Fair

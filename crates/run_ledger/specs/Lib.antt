@@ -1,3 +1,8 @@
-pub mod Ledger
+pub mod RecordLists
+pub mod Lines
+pub mod Ledgers
+pub mod Conditions
 pub mod Lawful
+pub mod Later
 pub mod Laws
+pub mod Apart

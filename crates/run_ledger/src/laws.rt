@@ -1,6 +1,11 @@
-//! Laws of lawful records.
+//! Laws of lawful records: each is called where it is wanted, and its clauses are facts from there on.
 
-ghost use Rattle.run_ledger.specs.Laws.{AcceptThenDoneIsLawful, LineagesStayEmpty};
+ghost use Rattle.run_ledger.specs.Apart.{OneReplicaIsApart, RecordsAreRight, StrongRecordsAreRight};
+ghost use Rattle.run_ledger.specs.Later.{LaterFlipsDecide, LaterFlipsDecideInside};
+ghost use Rattle.run_ledger.specs.Laws.{AcceptThenDoneIsLawful, AcceptsRebase, AdoptsRebase, CrashesKeepLineages, DiffersKeepTheBase, FaultsStay, LineagesAreSets, LineagesShareTheBase, LineagesStayEmpty, StaysTidy};
+
+use chare_eval::laws::earlier_flips_decide;
+use pup_state::laws::one_spelling;
 
 /// A run may take one checkpoint, at the end, where no fault is to come.
 pub fn accept_then_done_is_lawful()
@@ -11,3 +16,43 @@ pub fn accept_then_done_is_lawful()
 pub fn lineages_stay_empty()
     ensures { LineagesStayEmpty }
 {}
+
+/// From equal states on, equal flips of that iteration and later lead to equal states, and to equal cells and messages
+/// inside each iteration. So a replica may go over to other flips below its base where they made the same base.
+pub fn later_flips_decide()
+    ensures states { LaterFlipsDecide }
+    ensures inside { LaterFlipsDecideInside }
+{}
+
+/// What lawful records keep of a ledger: live flips strike at the base or later, those of the base before it, and the
+/// lines are the script's.
+pub fn ledgers_stay_tidy()
+    ensures tidy { StaysTidy }
+    ensures faults { FaultsStay }
+{}
+
+/// How lineages change with each record, and that the set of a lineage selects its flips from the script.
+pub fn lineages_follow()
+    ensures sets { LineagesAreSets }
+    ensures bases { LineagesShareTheBase }
+    ensures differs { DiffersKeepTheBase }
+    ensures accepts { AcceptsRebase }
+    ensures adopts { AdoptsRebase }
+    ensures crashes { CrashesKeepLineages }
+{}
+
+/// A script whose flips all strike one replica makes no equal checkpoints that are wrong.
+pub fn one_replica_is_apart()
+    ensures { OneReplicaIsApart }
+{}
+
+/// Where no flips of the two replicas make equal checkpoints that are wrong, every checkpoint that a lawful run accepts is
+/// that of the fault-free run, and the base at its end is the fault-free run's state. In strong mode nothing else is
+/// needed; in the other modes a replica whose checkpoint is adopted must not have been struck since the base.
+pub fn records_are_right()
+    ensures all { RecordsAreRight }
+    ensures strong { StrongRecordsAreRight }
+{
+    earlier_flips_decide();
+    one_spelling();
+}

@@ -1,5 +1,7 @@
-pub mod FaultFree
 pub mod Joins
 pub mod Sides
+pub mod Sizes
 pub mod Cuts
-pub mod Ends
+pub mod Joined
+pub mod Telling
+pub mod FaultFree

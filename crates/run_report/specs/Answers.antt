@@ -92,6 +92,10 @@ abbrev pub answer_lines : Plan → List Cells → List Answer → List ℕ
 answer_lines p all [] = []
 answer_lines p all (answer ∷ more) = answer_line p all answer ++ answer_lines p all more
 
--- the answers from the states at the end, which elements slipped, and that the run is over
+-- the answers from the states at the end, and which elements slipped
+unfoldable pub results : Plan → List Cells → List ℕ
+results p all = answer_lines p all p.answers ++ slips_text p (slipped_from 0 all)
+
+-- the same, and that the run is over
 unfoldable pub ending : Plan → List Cells → List ℕ
-ending p all = answer_lines p all p.answers ++ (slips_text p (slipped_from 0 all) ++ codes "end done\n")
+ending p all = results p all ++ codes "end done\n"

@@ -1,0 +1,4 @@
+pub mod Stored
+pub mod Assembled
+pub mod Marks
+pub mod Laws
