@@ -48,7 +48,7 @@ drill_records p = Accept p.iterations ∷ records.Done ∷ []
 pub record IsReport (p : Plan) (text : List ℕ) : Type 0 where
   pub lawful : Lawful p [] defaults (drill_records p)
   pub reports : text ≡ report p [] defaults (drill_records p)
-  pub fault_free : text ≡ plain_report p defaults (drill_records p)
+  pub fault_free : text ≡ plain_report p [] defaults (drill_records p)
 
 -- why a text is no job: `job LINE COLUMN WORD`
 abbrev pub job_line : Wording → List ℕ

@@ -7,15 +7,36 @@ use crate::status::Status;
 use crate::top::acr_quiet;
 use outside_io::edge::{Sink, Source};
 use std::alloc::Global;
+use std::env::{self, Env, FillError};
+use std::io;
 use std::process::ExitCode;
-use std::{env, io};
+
+// A process's arguments without the first, the program's name, which isn't read: so a name that is no text is no fault.
+#[derive(Drop)]
+struct AfterName<'a> {
+    rt: &'a HostRuntime,
+}
+
+impl Env for AfterName<'_> {
+    fn arg(&self, i: usize, buf: &mut [u8]) -> Result<usize, FillError> {
+        self.rt.arg(i.saturating_add(1), buf)
+    }
+
+    fn var(&self, name: &str, buf: &mut [u8]) -> Result<usize, FillError> {
+        self.rt.var(name, buf)
+    }
+
+    fn var_at(&self, i: usize, buf: &mut [u8]) -> Result<usize, FillError> {
+        self.rt.var_at(i, buf)
+    }
+}
 
 /// The words after the program's name.
 ///
-/// `OutOfMemory` is want of memory, and any other error an argument that isn't text.
+/// `OutOfMemory` is want of memory, and any other error a word that isn't text.
 pub fn arguments(rt: &HostRuntime) -> io::Result<Vec<String>> {
     let mut words = Vec::new(rt.alloc());
-    for word in env::args(rt)?.skip(1) {
+    for word in env::args(&(AfterName { rt }, rt.alloc()))? {
         words.push(word)?;
     }
     Ok(words)
