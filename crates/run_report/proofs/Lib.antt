@@ -1,5 +1,6 @@
 pub mod Joins
 pub mod Sides
+pub mod Sizes
 pub mod Cuts
 pub mod Joined
 pub mod Telling
