@@ -90,6 +90,10 @@ pub enum CheckFault {
         value: u64,
         at: u32,
     },
+    /// The plan breaks a rule that its type keeps, though no class of rules names it. No check answers it: the plan of a
+    /// tree that breaks no rule is sealed (`laws::unbroken_is_sealed`).
+    #[error("the plan breaks a rule")]
+    Plan,
     /// An allocation was refused.
     #[error("out of memory")]
     Memory,
@@ -110,14 +114,14 @@ impl CheckFault {
             | CheckFault::Overlap { at, .. }
             | CheckFault::Bound { at }
             | CheckFault::Limit { at, .. } => at,
-            CheckFault::Memory => 0,
+            CheckFault::Plan | CheckFault::Memory => 0,
         }
     }
 
     /// The number of the class in the order of classes, from 0.
     pub fn class(self) -> u8
         ensures exact { result ≡ class_of self }
-        ensures within { result < 10 }
+        ensures within { result < 11 }
     {
         match self {
             CheckFault::Twice { .. } => 0,
@@ -129,7 +133,8 @@ impl CheckFault {
             CheckFault::Overlap { .. } => 6,
             CheckFault::Bound { .. } => 7,
             CheckFault::Limit { .. } => 8,
-            CheckFault::Memory => 9,
+            CheckFault::Plan => 9,
+            CheckFault::Memory => 10,
         }
     }
 }

@@ -1,7 +1,6 @@
 //! The words of the language that are no names.
 
 ghost use Rattle.std.specs.Prelude.{◌≡◌};
-ghost use Rattle.std.specs.Str.{bytes_eq};
 ghost use Rattle.chare_syntax.specs.Words.{structure_word, statement_word, value_word, reserved};
 
 use crate::token::Mark;
@@ -14,36 +13,29 @@ pub fn reserved(word: &[u8]) -> Option<Mark>
     structure_word(word).or(statement_word(word).or(value_word(word)))
 }
 
-// Whether two words are equal.
-fn same(word: &[u8], other: &[u8]) -> bool
-    ensures { result ≡ bytes_eq word.now other.now }
-{
-    word == other
-}
-
 // Words of a job, an array, an entry and an answer.
 fn structure_word(word: &[u8]) -> Option<Mark>
     ensures { result ≡ structure_word word.now }
 {
-    if same(word, b"job") {
+    if word == b"job".as_slice() {
         Some(Mark::Job)
-    } else if same(word, b"iterate") {
+    } else if word == b"iterate".as_slice() {
         Some(Mark::Iterate)
-    } else if same(word, b"array") {
+    } else if word == b"array".as_slice() {
         Some(Mark::Array)
-    } else if same(word, b"state") {
+    } else if word == b"state".as_slice() {
         Some(Mark::State)
-    } else if same(word, b"int") {
+    } else if word == b"int".as_slice() {
         Some(Mark::Int)
-    } else if same(word, b"entry") {
+    } else if word == b"entry".as_slice() {
         Some(Mark::Entry)
-    } else if same(word, b"from") {
+    } else if word == b"from".as_slice() {
         Some(Mark::From)
-    } else if same(word, b"wrap") {
+    } else if word == b"wrap".as_slice() {
         Some(Mark::Wrap)
-    } else if same(word, b"reduce") {
+    } else if word == b"reduce".as_slice() {
         Some(Mark::Reduce)
-    } else if same(word, b"answer") {
+    } else if word == b"answer".as_slice() {
         Some(Mark::Answer)
     } else {
         None
@@ -54,23 +46,23 @@ fn structure_word(word: &[u8]) -> Option<Mark>
 fn statement_word(word: &[u8]) -> Option<Mark>
     ensures { result ≡ statement_word word.now }
 {
-    if same(word, b"step") {
+    if word == b"step".as_slice() {
         Some(Mark::Step)
-    } else if same(word, b"when") {
+    } else if word == b"when".as_slice() {
         Some(Mark::When)
-    } else if same(word, b"overlap") {
+    } else if word == b"overlap".as_slice() {
         Some(Mark::Overlap)
-    } else if same(word, b"send") {
+    } else if word == b"send".as_slice() {
         Some(Mark::Send)
-    } else if same(word, b"contribute") {
+    } else if word == b"contribute".as_slice() {
         Some(Mark::Contribute)
-    } else if same(word, b"if") {
+    } else if word == b"if".as_slice() {
         Some(Mark::If)
-    } else if same(word, b"else") {
+    } else if word == b"else".as_slice() {
         Some(Mark::Else)
-    } else if same(word, b"for") {
+    } else if word == b"for".as_slice() {
         Some(Mark::For)
-    } else if same(word, b"in") {
+    } else if word == b"in".as_slice() {
         Some(Mark::In)
     } else {
         None
@@ -81,31 +73,31 @@ fn statement_word(word: &[u8]) -> Option<Mark>
 fn value_word(word: &[u8]) -> Option<Mark>
     ensures { result ≡ value_word word.now }
 {
-    if same(word, b"sum") {
+    if word == b"sum".as_slice() {
         Some(Mark::Sum)
-    } else if same(word, b"min") {
+    } else if word == b"min".as_slice() {
         Some(Mark::Min)
-    } else if same(word, b"max") {
+    } else if word == b"max".as_slice() {
         Some(Mark::Max)
-    } else if same(word, b"at") {
+    } else if word == b"at".as_slice() {
         Some(Mark::At)
-    } else if same(word, b"index") {
+    } else if word == b"index".as_slice() {
         Some(Mark::Index)
-    } else if same(word, b"row") {
+    } else if word == b"row".as_slice() {
         Some(Mark::Row)
-    } else if same(word, b"col") {
+    } else if word == b"col".as_slice() {
         Some(Mark::Col)
-    } else if same(word, b"cell") {
+    } else if word == b"cell".as_slice() {
         Some(Mark::Cell)
-    } else if same(word, b"iter") {
+    } else if word == b"iter".as_slice() {
         Some(Mark::Iter)
-    } else if same(word, b"and") {
+    } else if word == b"and".as_slice() {
         Some(Mark::And)
-    } else if same(word, b"or") {
+    } else if word == b"or".as_slice() {
         Some(Mark::Or)
-    } else if same(word, b"not") {
+    } else if word == b"not".as_slice() {
         Some(Mark::Not)
-    } else if same(word, b"faults") {
+    } else if word == b"faults".as_slice() {
         Some(Mark::Faults)
     } else {
         None
