@@ -24,7 +24,6 @@ told text job (faults.TooEarly entry at) h = h
 told text job (faults.Overlap name at) h = h
 told text job (faults.Bound at) h = h
 told text job (faults.Limit which value at) h = h
-told text job faults.Plan h = h
 told text job faults.Memory h = tt
 
 module _ (text slice : List ℕ) (job : Job) (names : JobNames) (found : Found) where

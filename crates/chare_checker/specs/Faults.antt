@@ -2,7 +2,7 @@
 use Rattle.std.specs.Prelude.{ℕ, Bool, ◌||◌, ◌&&◌, ◌==◌, nat_lt, if◌then◌else◌, List, [], ◌∷◌, Option, Some, None}
 use Rattle.chare_syntax.specs.declared.token.Span.{Span}
 use Rattle.chare_checker.specs.declared.fault.CheckFault.{CheckFault}
-use Rattle.chare_checker.specs.declared.fault.CheckFault.TheVariants.{Twice, Unknown, Kind, Shape, NotOnce, TooEarly, Overlap, Bound, Limit, Plan, Memory}
+use Rattle.chare_checker.specs.declared.fault.CheckFault.TheVariants.{Twice, Unknown, Kind, Shape, NotOnce, TooEarly, Overlap, Bound, Limit, Memory}
 use Rattle.chare_checker.specs.declared.fault.LimitKind.TheVariants.{Name}
 
 abbrev pub Found : Type 0
@@ -21,7 +21,6 @@ place_of (TooEarly entry at) = at
 place_of (Overlap name at) = at
 place_of (Bound at) = at
 place_of (Limit which value at) = at
-place_of Plan = 0
 place_of Memory = 0
 
 -- the order of the classes
@@ -35,8 +34,7 @@ class_of (TooEarly entry at) = 5
 class_of (Overlap name at) = 6
 class_of (Bound at) = 7
 class_of (Limit which value at) = 8
-class_of Plan = 9
-class_of Memory = 10
+class_of Memory = 9
 
 -- of an earlier class, or of the same class at a lesser place
 abbrev pub comes_before : CheckFault → CheckFault → Bool

@@ -53,7 +53,6 @@ fault_code (checks.TooEarly entry at) = 11
 fault_code (checks.Overlap name at) = 12
 fault_code (checks.Bound at) = 13
 fault_code (checks.Limit which value at) = 14
-fault_code checks.Plan = 14
 fault_code checks.Memory = 0
 
 abbrev pub parse_word : ℕ → List ℕ

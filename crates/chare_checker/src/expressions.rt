@@ -75,7 +75,7 @@ fn walk_conj(
 ) -> Result<(), Memory>
     ensures { OnOk result (notes.new ≡ conj_walked scope.now.text.now scope.now.table.now site params.now loops.now conj.now notes.old) }
 {
-    walk_test(scope, site, params, loops, notes, &conj.first)?;
+    walk_test(scope, site, params, loops, notes, conj.first.get())?;
     walk_tests(scope, site, params, loops, notes, conj.others.as_slice())?;
     Ok(())
 }
@@ -130,7 +130,7 @@ fn walk_sum(
 ) -> Result<(), Memory>
     ensures { OnOk result (notes.new ≡ sum_walked scope.now.text.now scope.now.table.now site params.now loops.now sum.now notes.old) }
 {
-    walk_product(scope, site, params, loops, notes, &sum.first)?;
+    walk_product(scope, site, params, loops, notes, sum.first.get())?;
     walk_sum_terms(scope, site, params, loops, notes, sum.others.as_slice())?;
     Ok(())
 }

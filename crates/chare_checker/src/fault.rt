@@ -90,10 +90,6 @@ pub enum CheckFault {
         value: u64,
         at: u32,
     },
-    /// The plan breaks a rule that its type keeps, though no class of rules names it. No check answers it: the plan of a
-    /// tree that breaks no rule is sealed (`laws::unbroken_is_sealed`).
-    #[error("the plan breaks a rule")]
-    Plan,
     /// An allocation was refused.
     #[error("out of memory")]
     Memory,
@@ -114,14 +110,14 @@ impl CheckFault {
             | CheckFault::Overlap { at, .. }
             | CheckFault::Bound { at }
             | CheckFault::Limit { at, .. } => at,
-            CheckFault::Plan | CheckFault::Memory => 0,
+            CheckFault::Memory => 0,
         }
     }
 
     /// The number of the class in the order of classes, from 0.
     pub fn class(self) -> u8
         ensures exact { result ≡ class_of self }
-        ensures within { result < 11 }
+        ensures within { result < 10 }
     {
         match self {
             CheckFault::Twice { .. } => 0,
@@ -133,8 +129,7 @@ impl CheckFault {
             CheckFault::Overlap { .. } => 6,
             CheckFault::Bound { .. } => 7,
             CheckFault::Limit { .. } => 8,
-            CheckFault::Plan => 9,
-            CheckFault::Memory => 10,
+            CheckFault::Memory => 9,
         }
     }
 }

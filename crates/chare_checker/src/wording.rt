@@ -90,7 +90,6 @@ pub fn fault_code(fault: CheckFault) -> u8
         CheckFault::Overlap { .. } => 12,
         CheckFault::Bound { .. } => 13,
         CheckFault::Limit { .. } => 14,
-        CheckFault::Plan => 14,
         CheckFault::Memory => 0,
     }
 }

@@ -57,6 +57,7 @@ fn conj_of(alloc: Global, tokens: &[Token], levels: u32) -> Result<(Conj, &[Toke
     ensures shorter { IfOk result (λ x. length x.1.now < length tokens.now) }
 {
     let (first, rest) = test_of(alloc, tokens, levels)?;
+    let first = Boxed::new(alloc, first)?;
     let (others, rest) = tests_of(alloc, rest, levels)?;
     Ok((Conj { first, others }, rest))
 }
@@ -149,6 +150,7 @@ fn sum_of(alloc: Global, tokens: &[Token], levels: u32) -> Result<(Sum, &[Token]
     ensures shorter { IfOk result (λ x. length x.1.now < length tokens.now) }
 {
     let (first, rest) = product_of(alloc, tokens, levels)?;
+    let first = Boxed::new(alloc, first)?;
     let (others, rest) = sum_terms_of(alloc, rest, levels)?;
     Ok((Sum { first, others }, rest))
 }

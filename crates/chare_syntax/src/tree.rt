@@ -2,6 +2,8 @@
 //!
 //! Places are byte offsets in the text. Each node that begins with a word or a symbol has its place as
 //! `at`; the others begin with a name, a number or another node, whose place is theirs.
+//!
+//! The first test of a `Conj` and the first product of a `Sum` are boxed, so that an expression moves as a few words.
 
 ghost use Rattle.std.specs.Prelude.{IsTrue, length};
 ghost use Rattle.chare_syntax.specs.Accepted.{is_filled, is_shallow, names_lie};
@@ -241,7 +243,7 @@ pub struct Expr {
 #[cycle(expression)]
 #[derive(Drop)]
 pub struct Conj {
-    pub first: Test,
+    pub first: Boxed<Test>,
     pub others: Items<Test>,
 }
 
@@ -276,7 +278,7 @@ pub enum CompareOp {
 #[cycle(expression)]
 #[derive(Drop)]
 pub struct Sum {
-    pub first: Product,
+    pub first: Boxed<Product>,
     pub others: Items<SumTerm>,
 }
 

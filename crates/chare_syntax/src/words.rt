@@ -1,6 +1,7 @@
 //! The words of the language that are no names.
 
 ghost use Rattle.std.specs.Prelude.{◌≡◌};
+ghost use Rattle.std.specs.Str.{bytes_eq};
 ghost use Rattle.chare_syntax.specs.Words.{structure_word, statement_word, value_word, reserved};
 
 use crate::token::Mark;
@@ -13,29 +14,36 @@ pub fn reserved(word: &[u8]) -> Option<Mark>
     structure_word(word).or(statement_word(word).or(value_word(word)))
 }
 
+// Whether two words are equal.
+fn same(word: &[u8], other: &[u8]) -> bool
+    ensures { result ≡ bytes_eq word.now other.now }
+{
+    word == other
+}
+
 // Words of a job, an array, an entry and an answer.
 fn structure_word(word: &[u8]) -> Option<Mark>
     ensures { result ≡ structure_word word.now }
 {
-    if word == b"job".as_slice() {
+    if same(word, b"job") {
         Some(Mark::Job)
-    } else if word == b"iterate".as_slice() {
+    } else if same(word, b"iterate") {
         Some(Mark::Iterate)
-    } else if word == b"array".as_slice() {
+    } else if same(word, b"array") {
         Some(Mark::Array)
-    } else if word == b"state".as_slice() {
+    } else if same(word, b"state") {
         Some(Mark::State)
-    } else if word == b"int".as_slice() {
+    } else if same(word, b"int") {
         Some(Mark::Int)
-    } else if word == b"entry".as_slice() {
+    } else if same(word, b"entry") {
         Some(Mark::Entry)
-    } else if word == b"from".as_slice() {
+    } else if same(word, b"from") {
         Some(Mark::From)
-    } else if word == b"wrap".as_slice() {
+    } else if same(word, b"wrap") {
         Some(Mark::Wrap)
-    } else if word == b"reduce".as_slice() {
+    } else if same(word, b"reduce") {
         Some(Mark::Reduce)
-    } else if word == b"answer".as_slice() {
+    } else if same(word, b"answer") {
         Some(Mark::Answer)
     } else {
         None
@@ -46,23 +54,23 @@ fn structure_word(word: &[u8]) -> Option<Mark>
 fn statement_word(word: &[u8]) -> Option<Mark>
     ensures { result ≡ statement_word word.now }
 {
-    if word == b"step".as_slice() {
+    if same(word, b"step") {
         Some(Mark::Step)
-    } else if word == b"when".as_slice() {
+    } else if same(word, b"when") {
         Some(Mark::When)
-    } else if word == b"overlap".as_slice() {
+    } else if same(word, b"overlap") {
         Some(Mark::Overlap)
-    } else if word == b"send".as_slice() {
+    } else if same(word, b"send") {
         Some(Mark::Send)
-    } else if word == b"contribute".as_slice() {
+    } else if same(word, b"contribute") {
         Some(Mark::Contribute)
-    } else if word == b"if".as_slice() {
+    } else if same(word, b"if") {
         Some(Mark::If)
-    } else if word == b"else".as_slice() {
+    } else if same(word, b"else") {
         Some(Mark::Else)
-    } else if word == b"for".as_slice() {
+    } else if same(word, b"for") {
         Some(Mark::For)
-    } else if word == b"in".as_slice() {
+    } else if same(word, b"in") {
         Some(Mark::In)
     } else {
         None
@@ -73,31 +81,31 @@ fn statement_word(word: &[u8]) -> Option<Mark>
 fn value_word(word: &[u8]) -> Option<Mark>
     ensures { result ≡ value_word word.now }
 {
-    if word == b"sum".as_slice() {
+    if same(word, b"sum") {
         Some(Mark::Sum)
-    } else if word == b"min".as_slice() {
+    } else if same(word, b"min") {
         Some(Mark::Min)
-    } else if word == b"max".as_slice() {
+    } else if same(word, b"max") {
         Some(Mark::Max)
-    } else if word == b"at".as_slice() {
+    } else if same(word, b"at") {
         Some(Mark::At)
-    } else if word == b"index".as_slice() {
+    } else if same(word, b"index") {
         Some(Mark::Index)
-    } else if word == b"row".as_slice() {
+    } else if same(word, b"row") {
         Some(Mark::Row)
-    } else if word == b"col".as_slice() {
+    } else if same(word, b"col") {
         Some(Mark::Col)
-    } else if word == b"cell".as_slice() {
+    } else if same(word, b"cell") {
         Some(Mark::Cell)
-    } else if word == b"iter".as_slice() {
+    } else if same(word, b"iter") {
         Some(Mark::Iter)
-    } else if word == b"and".as_slice() {
+    } else if same(word, b"and") {
         Some(Mark::And)
-    } else if word == b"or".as_slice() {
+    } else if same(word, b"or") {
         Some(Mark::Or)
-    } else if word == b"not".as_slice() {
+    } else if same(word, b"not") {
         Some(Mark::Not)
-    } else if word == b"faults".as_slice() {
+    } else if same(word, b"faults") {
         Some(Mark::Faults)
     } else {
         None

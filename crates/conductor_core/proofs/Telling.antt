@@ -2,10 +2,8 @@
 use Rattle.std.proofs.Common.{◌≡◌, ◌≢◌, ℕ, zero, suc, ◌<◌, Bool, true, false, cond, List, [], ◌∷◌, ◌++◌, length, refl, ap, sym, ◌∙◌, arith, subst, Option, Some, None, map}
 use Rattle.std.specs.Prelude.{◌==◌, ◌&&◌, is_none, nat_lt, slice_index_or, slice_set, IsSome}
 use Rattle.std.specs.List.{AllByRecursion, list_all}
-use Rattle.std.specs.Str.{bytes_eq}
 use Rattle.std.proofs.lemmas.Bool.{eqb-true, ltb-true}
 use Rattle.std.proofs.lemmas.Bool.Decides.{Decides-eqb}
-use Rattle.std.proofs.lemmas.Slice.Eq.{bytes_eq-Decides}
 use Rattle.std.proofs.lemmas.List.{get_or-set_same, get_or-set_other, length-append, length-set}
 use Rattle.chare_base.specs.declared.cells.Cells.{Cells}
 use Rattle.chare_base.specs.declared.plan.Plan.{Plan}
@@ -16,15 +14,14 @@ use Rattle.fault_script.specs.declared.fault.Fault.{Fault}
 use Rattle.pup_state.specs.declared.compare.Verdict.{Verdict}
 use Rattle.pup_state.specs.declared.compare.Verdict.TheVariants as verdicts
 use Rattle.pup_state.specs.declared.piece.Piece.{Piece}
-use Rattle.pup_state.specs.Spelling.{cells_at}
-use Rattle.pup_state.specs.Spelling.{record_spelling}
+use Rattle.buddy_compare.specs.Laws.{EqualExactly}
 use Rattle.run_ledger.specs.declared.record.Record.TheVariants.{Accept, Done}
 use Rattle.letter_post.specs.declared.letter.BoxId.TheVariants as boxes
 use Rattle.letter_post.specs.declared.letter.Letter.TheVariants as letters
 use Rattle.letter_post.specs.declared.letter.Sent.{Sent}
 use Rattle.letter_post.specs.declared.stamp.Stamp.{Stamp}
 use Rattle.letter_post.specs.Stamps.{lines_of, same_stamp}
-use Rattle.letter_post.specs.Truth.{Holds, Says, first_differing, node_records, node_verdict, verdict_from}
+use Rattle.letter_post.specs.Truth.{Holds, Says, node_records, node_verdict}
 use Rattle.checkpoint_store.specs.Assembled.{assembled, bytes_of, rest_at}
 use Rattle.checkpoint_store.specs.Laws.{PiecesMakeTheCheckpoint}
 use Rattle.checkpoint_store.specs.Marks.{mark_of}
@@ -243,12 +240,5 @@ starts_tell p script place nodes = record {
 
 -- ---- the same flips
 
-bytes_same : (xs : List ℕ) → bytes_eq xs xs ≡ true
-bytes_same xs = (bytes_eq-Decides xs xs).1 refl
-
-none_differs : (p : Plan) (k : ℕ) (x : List Cells) (es : List ℕ) → first_differing p k x x es ≡ None
-none_differs p k x [] = refl
-none_differs p k x (e ∷ more) = ap (λ b. cond b (first_differing p k x x more) (Some e)) (bytes_same (record_spelling p e k (cells_at x e))) ∙ none_differs p k x more
-
-pub equal_lines : EqualLinesAgree
-equal_lines p place lines k j = ap verdict_from (none_differs p k (fold p lines k) (members place j))
+pub equal_lines : EqualExactly → EqualLinesAgree
+equal_lines exactly p place lines k j = (exactly p (node_records p place lines k j) (node_records p place lines k j)).1 refl

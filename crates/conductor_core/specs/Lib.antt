@@ -1,4 +1,5 @@
 pub mod Openings
+pub mod Fitting
 pub mod Endings
 pub mod Conductors
 pub mod Tells

@@ -2,6 +2,7 @@
 
 ghost use Rattle.conductor_core.specs.Tells.{EqualLinesAgree, HearsTell, StartsTell};
 
+use buddy_compare::laws::equal_exactly;
 use checkpoint_store::laws::pieces_make_the_checkpoint;
 
 /// Whatever true letters it hears, a conductor keeps verdicts and pieces of the definition, and the checkpoint that it
@@ -16,4 +17,6 @@ pub fn conductors_tell()
 /// Where the same flips shaped both replicas, a true verdict is Equal.
 pub fn equal_lines_agree()
     ensures { EqualLinesAgree }
-{}
+{
+    equal_exactly();
+}

@@ -15,3 +15,4 @@ pub mod conductor;
 pub mod ending;
 pub mod laws;
 pub mod opening;
+pub mod fits;

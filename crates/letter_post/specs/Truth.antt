@@ -1,7 +1,5 @@
 -- Which letters are true.
 use Rattle.std.specs.Prelude.{◌≡◌, ℕ, ◌<◌, ◌≤◌, ◌==◌, ℤ, if◌then◌else◌, List, [], ◌∷◌, ◌++◌, Option, Some, None}
-use Rattle.std.specs.Str.{bytes_eq}
-use Rattle.chare_base.specs.declared.cells.Cells.{Cells}
 use Rattle.chare_base.specs.declared.message.Port.TheVariants as ports
 use Rattle.chare_base.specs.declared.plan.ElementId.{ElementId}
 use Rattle.chare_base.specs.declared.plan.Plan.{Plan}
@@ -18,9 +16,9 @@ use Rattle.chare_eval.specs.Stage as stages
 use Rattle.fault_script.specs.declared.fault.Fault.{Fault}
 use Rattle.fault_script.specs.declared.fault.Fault.TheVariants as faults
 use Rattle.pup_state.specs.declared.compare.Verdict.{Verdict}
-use Rattle.pup_state.specs.declared.compare.Verdict.TheVariants as verdicts
 use Rattle.pup_state.specs.declared.piece.Piece.{Piece}
-use Rattle.pup_state.specs.Spelling.{cells_at, record_spelling, records_of}
+use Rattle.pup_state.specs.Spelling.{records_of}
+use Rattle.buddy_compare.specs.Comparing.{verdict_of}
 use Rattle.letter_post.specs.declared.letter.BoxId.{BoxId}
 use Rattle.letter_post.specs.declared.letter.BoxId.TheVariants as boxes
 use Rattle.letter_post.specs.declared.letter.Letter.{Letter}
@@ -40,18 +38,9 @@ pub record IsPiece (p : Plan) (place : List ℕ) (lines : List Flip) (piece : Pi
   pub bytes : piece.bytes ≡ node_records p place lines piece.iteration piece.node
   pub within : piece.iteration ≤ p.iterations
 
--- the first of these elements whose records differ
-abbrev pub first_differing : Plan → ℕ → List Cells → List Cells → List ℕ → Option ℕ
-first_differing p k x y [] = None
-first_differing p k x y (e ∷ more) = if bytes_eq (record_spelling p e k (cells_at x e)) (record_spelling p e k (cells_at y e)) then first_differing p k x y more else Some e
-
-abbrev pub verdict_from : Option ℕ → Verdict
-verdict_from None = verdicts.Equal
-verdict_from (Some e) = verdicts.Differ (record { 0 = e })
-
 -- how the pieces of a node's elements compare, under two lists of flips
 abbrev pub node_verdict : Plan → List ℕ → List Flip → List Flip → ℕ → ℕ → Verdict
-node_verdict p place first second k j = verdict_from (first_differing p k (fold p first k) (fold p second k) (members place j))
+node_verdict p place first second k j = verdict_of p (node_records p place first k j) (node_records p place second k j)
 
 -- ---- reductions
 

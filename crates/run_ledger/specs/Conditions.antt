@@ -54,7 +54,7 @@ crash_free_of l replica k = not (list_any (is_crash_of_below replica k) l.lines)
 abbrev pub has_copy : List Bool → List Bool → ℕ → Bool
 has_copy first second j = slice_index_or first j false || slice_index_or second j false
 
--- the least of so many nodes, from one on, that has no copy
+-- the least of n nodes, from node j on, that has no copy
 abbrev pub bare_from : List Bool → List Bool → ℕ → ℕ → Option ℕ
 bare_from first second j zero = None
 bare_from first second j (suc n) = if has_copy first second j then bare_from first second (suc j) n else Some j

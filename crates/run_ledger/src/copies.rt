@@ -5,7 +5,7 @@ ghost use Rattle.std.specs.Prelude.{◌≡◌, IfOk, length, replicate, if◌the
 use chare_base::memory::Memory;
 use std::alloc::Global;
 
-// Copies of so many nodes, all of which stand.
+// The copies of n nodes, all of which stand.
 pub(crate) fn standing(alloc: Global, nodes: u16) -> Result<Vec<bool>, Memory>
     ensures { IfOk result (λ copies. copies.items ≡ replicate nodes true) }
 {

@@ -94,7 +94,7 @@ impl Ledger {
         })
     }
 
-    /// Makes room for so many more records, so that they can be made without memory.
+    /// Makes room for `more` records beyond those made, so that they can be made without memory.
     pub fn reserve(&mut self, more: u32) -> Result<(), Memory>
         ensures room { OnOk result (more ≤ self.new.spare) }
         ensures ledger { self.new.ledger ≡ self.old.ledger }

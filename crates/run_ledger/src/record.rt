@@ -78,7 +78,7 @@ impl Records {
         self.records.is_empty()
     }
 
-    /// Makes room for so many more records.
+    /// Makes room for `more` records beyond those that there are.
     pub fn reserve(&mut self, more: usize) -> Result<(), Memory>
         ensures room { OnOk result (more ≤ self.new.room) }
         ensures items { self.new.items ≡ self.old.items }

@@ -1,6 +1,5 @@
 pub mod Joins
 pub mod Sides
-pub mod Sizes
 pub mod Cuts
 pub mod Joined
 pub mod Telling

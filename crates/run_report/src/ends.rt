@@ -5,7 +5,6 @@ ghost use Rattle.chare_base.specs.declared.cells.Cells.{Cells};
 ghost use Rattle.chare_base.specs.Shape.{Shaped};
 ghost use Rattle.pup_state.specs.Laws.{State};
 ghost use Rattle.pup_state.specs.Packs.{IsPack};
-ghost use Rattle.conductor_core.specs.Endings.{last_states};
 ghost use Rattle.run_report.specs.Answers.{ending, results};
 ghost use Rattle.run_report.specs.Report.{plain_text};
 
@@ -17,8 +16,8 @@ use chare_base::cells::{Cells, CellsList};
 use chare_base::memory::Memory;
 use chare_base::plan::Plan;
 use pup_state::fault::PupFault;
+use pup_state::laws::pieces_are_small;
 use pup_state::unpack::unpack_all;
-use run_ledger::ledger::Ledger;
 use std::alloc::Global;
 
 /// The text of a plain run: the answers and slips from the states at its end.
@@ -39,12 +38,12 @@ pub(crate) fn put_done(
     alloc: Global,
     out: &mut Bytes,
     plan: &Plan,
-    ledger: &Ledger,
     last: &[u8],
 ) -> Result<(), Memory>
-    requires { IsPack plan.now last.now plan.now.iterations (last_states plan.now ledger.now.ledger) }
-    ensures { OnOk result (out.new ≡ out.old ++ ending plan.now (last_states plan.now ledger.now.ledger)) }
+    requires { State plan.now last.now }
+    ensures { (done : ℕ) (all : List Cells) → IsPack plan.now last.now done all → OnOk result (out.new ≡ out.old ++ ending plan.now all) }
 {
+    pieces_are_small();
     let all = last_states(alloc, plan, last)?;
     put_ending(alloc, out, plan, all.as_slice())?;
     Ok(())

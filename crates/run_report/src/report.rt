@@ -130,7 +130,7 @@ fn put_record(
         Record::Both => put_both(alloc, out, ledger.base())?,
         Record::NoSpare => out.extend(b"end no spare\n")?,
         Record::Lost { node } => put_lost(alloc, out, node)?,
-        Record::Done => put_done(alloc, out, plan, ledger, last)?,
+        Record::Done => put_done(alloc, out, plan, last)?,
     }
     Ok(())
 }

@@ -37,7 +37,6 @@ first text job (checks.TooEarly entry at) h r = h
 first text job (checks.Overlap name at) h r = h
 first text job (checks.Bound at) h r = h
 first text job (checks.Limit which value at) h r = h
-first text job checks.Plan h r = h
 first text job checks.Memory h r = absurd (r refl)
 
 -- a text whose tree breaks a rule

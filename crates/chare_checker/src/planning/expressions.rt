@@ -54,7 +54,7 @@ fn plan_conjs(
 fn plan_conj(alloc: Global, scope: &Scope<'_>, loops: &[Span], conj: &Conj) -> Result<Expr, Memory>
     ensures { IfOk result (λ e. e ≡ conj_planned scope.now.text.now scope.now.table.now scope.now.params.now loops.now conj.now) }
 {
-    let first = plan_test(alloc, scope, loops, &conj.first)?;
+    let first = plan_test(alloc, scope, loops, conj.first.get())?;
     let others = plan_tests(alloc, scope, loops, conj.others.as_slice())?;
     let planned = all_of(alloc, first, others)?;
     Ok(planned)
@@ -99,7 +99,7 @@ fn plan_test(alloc: Global, scope: &Scope<'_>, loops: &[Span], test: &Test) -> R
 fn plan_sum(alloc: Global, scope: &Scope<'_>, loops: &[Span], sum: &Sum) -> Result<Expr, Memory>
     ensures { IfOk result (λ e. e ≡ sum_planned scope.now.text.now scope.now.table.now scope.now.params.now loops.now sum.now) }
 {
-    let first = plan_product(alloc, scope, loops, &sum.first)?;
+    let first = plan_product(alloc, scope, loops, sum.first.get())?;
     let others = plan_terms(alloc, scope, loops, sum.others.as_slice())?;
     let planned = sum_of(alloc, first, others)?;
     Ok(planned)

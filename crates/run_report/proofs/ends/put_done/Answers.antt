@@ -1,7 +1,6 @@
-use Rattle.conductor_core.specs.Endings.{last_states}
-use Rattle.run_report.proofs.Sizes.{pack_short}
+use Rattle.std.proofs.Common.{arith}
 use Rattle.run_report.proofs.ends.put_done.Goals as goal
 
 pub last_states-requires-clause-few : goal.last_states-requires-clause-few
 last_states-requires-clause-few c =
-    pack_short c.args.plan.now c.args.last.now c.args.plan.now.iterations (last_states c.args.plan.now c.args.ledger.now.ledger) c.requires
+    omega (arith, c.pieces_are_small.ensures.checkpoint c.args.plan.now c.args.last.now c.requires.done c.requires.all c.requires.is)

@@ -1,0 +1,13 @@
+use Rattle.std.proofs.Common.{◌+◌, ℕ, List, refl, arith}
+use Rattle.std.specs.Prelude.{◌==◌}
+use Rattle.node_core.proofs.Starting.{start_next}
+use Rattle.node_core.proofs.node.start_objects.Goals as goal
+
+pub loop-e-preserved : goal.loop-e-preserved
+loop-e-preserved g c =
+    let place : List ℕ = g.M.Placement.place c.args.map.now in
+    record {
+      told = start_next c.args.plan.now place c.loop-e.e (c.loop-e.e + 1) c.node_of.result c.args.node (c.node_of.result == c.args.node) c.loop-e.all.items c.start_if.new.all.items
+          (omega arith) c.node_of.ensures.node refl c.in_ok-start_if.ensures.exact c.loop-e.invariant.told;
+      fits = c.in_ok-start_if.ensures.fits;
+    }

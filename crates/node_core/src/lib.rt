@@ -1,0 +1,21 @@
+//! A slot's node: the objects of its elements, and the letters that it hears and sends.
+//!
+//! A node runs its elements turn by turn, hears one letter at a time, and packs its elements' states into its piece of a
+//! checkpoint. Contributions to a reduction are gathered: a node's share goes to node 0 with the last of them, and node 0
+//! sends the total with the last share. `specs/Nodes` says in one equation for each call what it makes of a node and
+//! which letters it sends.
+//!
+//! Two laws hold over these definitions. `nodes_keep`: under the flips of its stamp a node's elements, what it gathers
+//! and its pieces are the definition's, and each letter that it sends is true. `nodes_move`: nothing that is sent is
+//! lost; a node has sent whatever it owes. A world of nodes and a worker that drives one in a thread stand on this crate.
+#![tactic(auto)]
+
+pub mod laws;
+mod live;
+pub mod node;
+mod object;
+mod passing;
+pub mod piece;
+mod roster;
+mod tallies;
+pub mod turn;

@@ -1,0 +1,571 @@
+//! A live node: its elements' objects, what it gathers, and its pieces.
+
+ghost use Rattle.std.specs.Prelude.{◌≡◌, ℕ, ◌<◌, ◌≤◌, if◌then◌else◌, List, None, length, map, slice_get, IfOk, OnOk};
+ghost use Rattle.std.specs.List.{AllByRecursion};
+ghost use Rattle.chare_base.specs.Elements.{elements};
+ghost use Rattle.chare_base.specs.Entries.{reduction_of};
+ghost use Rattle.chare_eval.specs.Stage.{one_value};
+ghost use Rattle.fault_script.specs.Lines.{faults_of, flips_in};
+ghost use Rattle.letter_post.specs.Stamps.{lines_of};
+ghost use Rattle.object_steps.specs.Objects.{Fits};
+ghost use Rattle.node_core.specs.Nodes.{Body, all_at_of, body_heard, body_packed, body_ran, body_ran_at, body_ran_by, body_turned, first_running_of, idle_of, lesser, next_begin_of, parcel_heard, partial_heard, piece_heard, piece_of, share_heard, taken_at, taken_by, taken_in, total_heard, turn_of, unmoved, with_objects, with_totals};
+ghost use Rattle.node_core.specs.Rosters.{number_in};
+ghost use Rattle.node_core.specs.Turns.{turned};
+
+use crate::object::{begins, can_run, is_at, take, turn};
+use crate::passing::{pass_all, send_totals};
+use crate::piece::{Held, Loan, is_new, pack_objects, send_compared, send_packed};
+use crate::roster::{Seats, number_in};
+use crate::tallies::{Tally, count_in};
+use crate::turn::{Sender, Turn};
+use chare_base::memory::Memory;
+use chare_base::message::{EntryId, Payload, Port, ReductionId};
+use chare_base::placement::Placement;
+use chare_base::plan::{ElementId, Plan, Reduction, Spot};
+use chare_base::slots::{LineSet, SlotId};
+use chare_eval::effects::Effects;
+use fault_script::script::Script;
+use letter_post::letter::Letter;
+use letter_post::outbox::Outbox;
+use letter_post::stamp::Stamp;
+use object_steps::object::Object;
+use pup_state::piece::Piece;
+use ref_messages::key::RefKey;
+use std::alloc::Global;
+use std::marker::Model;
+
+/// What a node holds while it lives.
+#[derive(Drop)]
+pub(crate) struct Live {
+    pub(crate) objects: Vec<Object>,
+    pub(crate) gatherings: Vec<Tally>,
+    pub(crate) totals: Vec<Tally>,
+    pub(crate) base: Piece,
+    pub(crate) fresh: Option<Piece>,
+    pub(crate) other: Option<Held>,
+    pub(crate) live: LineSet,
+    pub(crate) loan: Option<Loan>,
+    pub(crate) waits: bool,
+}
+
+impl Model for Live {
+    ghost use Rattle.node_core.specs.Nodes.{Body};
+
+    ghost Value = { Body };
+
+    ghost view = { λ l. record { objects = l.objects.items; gatherings = l.gatherings.items; totals = l.totals.items; base = l.base; fresh = l.fresh; other = l.other; live = l.live; loan = l.loan; waits = l.waits } };
+}
+
+impl Live {
+    // A turn of an element.
+    #[tactic(auto, unfolding(crate::specs::Nodes::body_ran))]
+    pub(crate) fn run<M: Placement>(
+        &mut self,
+        alloc: Global,
+        plan: &Plan,
+        script: &Script,
+        map: &M,
+        slot: SlotId,
+        stamp: Stamp,
+        roster: &Seats,
+        e: ElementId,
+        limit: u64,
+        effects: &mut Effects,
+    ) -> Result<Turn, Memory>
+        requires fits { AllByRecursion (Fits plan.now) self.old.objects }
+        requires place { length (M.place map.now) ≡ elements plan.now }
+        ensures { IfOk result (λ turn. record { body = self.new; turn = turn } ≡ body_ran plan.now (lines_of (faults_of script.now) stamp) (M.place map.now) limit e.0 slot stamp roster.now self.old) }
+    {
+        if self.waits {
+            return Ok(Turn::Awaits);
+        }
+        let seat = roster.seat(e);
+        let turn = run_at(
+            alloc,
+            plan,
+            script,
+            map,
+            slot,
+            stamp,
+            roster,
+            seat,
+            limit,
+            &mut self.objects,
+            &mut self.gatherings,
+            effects,
+        )?;
+        Ok(turn)
+    }
+}
+
+// A turn of the object of a number.
+fn run_at<M: Placement>(
+    alloc: Global,
+    plan: &Plan,
+    script: &Script,
+    map: &M,
+    slot: SlotId,
+    stamp: Stamp,
+    roster: &Seats,
+    seat: Option<u32>,
+    limit: u64,
+    objects: &mut Vec<Object>,
+    gatherings: &mut Vec<Tally>,
+    effects: &mut Effects,
+) -> Result<Turn, Memory>
+    requires fits { AllByRecursion (Fits plan.now) objects.old.items }
+    requires place { length (M.place map.now) ≡ elements plan.now }
+    ensures { (b : Body) → IfOk result (λ turn. record { body = with_objects b objects.new.items gatherings.new.items; turn = turn } ≡ body_ran_at plan.now (lines_of (faults_of script.now) stamp) (M.place map.now) limit slot stamp roster.now (with_objects b objects.old.items gatherings.old.items) seat) }
+{
+    match seat {
+        None => Ok(Turn::Awaits),
+        Some(i) => {
+            if (i as usize) < objects.len() {
+                run_object(
+                    alloc, plan, script, map, slot, stamp, roster, i, limit, objects, gatherings,
+                    effects,
+                )
+            } else {
+                Ok(Turn::Awaits)
+            }
+        }
+    }
+}
+
+fn run_object<M: Placement>(
+    alloc: Global,
+    plan: &Plan,
+    script: &Script,
+    map: &M,
+    slot: SlotId,
+    stamp: Stamp,
+    roster: &Seats,
+    i: u32,
+    limit: u64,
+    objects: &mut Vec<Object>,
+    gatherings: &mut Vec<Tally>,
+    effects: &mut Effects,
+) -> Result<Turn, Memory>
+    requires there { i < length objects.old.items }
+    requires fits { AllByRecursion (Fits plan.now) objects.old.items }
+    requires place { length (M.place map.now) ≡ elements plan.now }
+    ensures { (b : Body) → IfOk result (λ turn. record { body = with_objects b objects.new.items gatherings.new.items; turn = turn } ≡ body_ran_by plan.now (lines_of (faults_of script.now) stamp) (M.place map.now) limit slot stamp roster.now (with_objects b objects.old.items gatherings.old.items) i (slice_get objects.old.items i)) }
+{
+    effects.clear();
+    let object = &mut objects[i as usize];
+    let element = object.element();
+    let before = begins(plan.iterations(), object);
+    let sender = Sender {
+        slot,
+        stamp,
+        iteration: object.done(),
+        array: plan.place(element).array,
+        rank: roster.rank(i),
+    };
+    let spot = turn(alloc, plan, script, stamp.lines, limit, object, effects)?;
+    let mut out = Outbox::new(alloc);
+    pass_all(
+        alloc,
+        plan,
+        map,
+        roster,
+        sender,
+        effects.as_slice(),
+        gatherings,
+        &mut out,
+    )?;
+    Ok(turn_of(element, before, spot, out))
+}
+
+// What a turn was.
+fn turn_of(element: ElementId, before: bool, spot: Option<Spot>, outbox: Outbox) -> Turn
+    ensures { result ≡ turn_of element before spot outbox }
+{
+    match spot {
+        Some(spot) => Turn::Ran {
+            element,
+            spot,
+            outbox,
+        },
+        None => idle(before),
+    }
+}
+
+// Why no part ran.
+pub(crate) fn idle(before: bool) -> Turn
+    ensures { result ≡ idle_of before }
+{
+    if before { Turn::Held } else { Turn::Awaits }
+}
+
+// ---- who can run
+
+// The first of these that can run.
+pub(crate) fn first_running(plan: &Plan, limit: u64, objects: &[Object]) -> Option<ElementId>
+    requires { AllByRecursion (Fits plan.now) objects.now }
+    ensures { result ≡ first_running_of plan.now limit objects.now }
+{
+    for object in objects {
+        if can_run(plan, limit, object) {
+            return Some(object.element());
+        }
+    }
+    None
+}
+
+// The least iteration that one of these would begin, of so many.
+pub(crate) fn next_begin(iterations: u64, objects: &[Object]) -> Option<u64>
+    ensures { result ≡ next_begin_of iterations None objects.now }
+{
+    let mut least = None;
+    for object in objects {
+        least = lesser_if(begins(iterations, object), least, object.done());
+    }
+    least
+}
+
+fn lesser_if(begins: bool, least: Option<u64>, k: u64) -> Option<u64>
+    ensures { result ≡ (if begins then lesser least k else least) }
+{
+    if !begins {
+        return least;
+    }
+    match least {
+        None => Some(k),
+        Some(l) => Some(l.min(k)),
+    }
+}
+
+// Whether each of these has completed k iterations, and none has begun the next.
+pub(crate) fn all_at(k: u64, objects: &[Object]) -> bool
+    ensures { result ≡ all_at_of k objects.now }
+{
+    objects.iter().all(|object| is_at(k, object))
+}
+
+// ---- letters
+
+// What a node's elements contributed to a reduction in an iteration.
+#[derive(Clone, Copy)]
+struct Share {
+    reduction: ReductionId,
+    iteration: u64,
+    node: u16,
+    value: i64,
+}
+
+impl Live {
+    // A letter comes.
+    pub(crate) fn hear<M: Placement>(
+        &mut self,
+        alloc: Global,
+        plan: &Plan,
+        script: &Script,
+        map: &M,
+        slot: SlotId,
+        stamp: Stamp,
+        roster: &Seats,
+        letter: Letter,
+    ) -> Result<Outbox, Memory>
+        ensures { IfOk result (λ out. record { body = self.new; out = out } ≡ body_heard plan.now (faults_of script.now) (M.place map.now) slot stamp roster.now self.old letter) }
+    {
+        let _ = script;
+        let _ = map;
+        match letter {
+            Letter::Parcel {
+                stamp: sent_under,
+                entry,
+                iteration,
+                to,
+                payload,
+            } => self.hear_parcel(
+                alloc,
+                sent_under.is_same(stamp),
+                roster,
+                iteration,
+                entry,
+                to,
+                payload,
+            ),
+            Letter::Partial {
+                stamp: theirs,
+                reduction,
+                iteration,
+                node,
+                value,
+            } => {
+                let share = Share {
+                    reduction,
+                    iteration,
+                    node,
+                    value,
+                };
+                self.hear_share(
+                    alloc,
+                    plan,
+                    theirs.is_same(stamp),
+                    slot.replica,
+                    stamp,
+                    roster,
+                    share,
+                )
+            }
+            Letter::Total {
+                stamp: theirs,
+                reduction,
+                iteration,
+                value,
+            } => self.hear_total(
+                alloc,
+                plan,
+                theirs.is_same(stamp),
+                iteration,
+                reduction,
+                value,
+            ),
+            Letter::Piece {
+                stamp: theirs,
+                piece,
+            } => self.hear_piece(alloc, plan, stamp, slot.node, theirs, piece),
+            Letter::VerdictOf { .. } => Ok(Outbox::new(alloc)),
+            Letter::Lend { .. } => Ok(Outbox::new(alloc)),
+            Letter::Take { .. } => Ok(Outbox::new(alloc)),
+            Letter::Restore { .. } => Ok(Outbox::new(alloc)),
+            Letter::Commit { .. } => Ok(Outbox::new(alloc)),
+            Letter::Resume { .. } => Ok(Outbox::new(alloc)),
+            Letter::Died { .. } => Ok(Outbox::new(alloc)),
+            Letter::Stop => Ok(Outbox::new(alloc)),
+        }
+    }
+
+    // A message for an element, under the node's own stamp or not.
+    fn hear_parcel(
+        &mut self,
+        alloc: Global,
+        own: bool,
+        roster: &Seats,
+        iteration: u64,
+        entry: EntryId,
+        to: ElementId,
+        payload: Payload,
+    ) -> Result<Outbox, Memory>
+        ensures { IfOk result (λ out. record { body = self.new; out = out } ≡ (if own then parcel_heard roster.now iteration entry to payload self.old else unmoved self.old)) }
+    {
+        if !own {
+            return Ok(Outbox::new(alloc));
+        }
+        let seat = roster.seat(to);
+        take_parcel(seat, iteration, entry, payload, &mut self.objects)?;
+        Ok(Outbox::new(alloc))
+    }
+
+    // A reduction's total.
+    fn hear_total(
+        &mut self,
+        alloc: Global,
+        plan: &Plan,
+        own: bool,
+        iteration: u64,
+        reduction: ReductionId,
+        value: i64,
+    ) -> Result<Outbox, Memory>
+        ensures { IfOk result (λ out. record { body = self.new; out = out } ≡ (if own then total_heard plan.now iteration reduction value self.old (reduction_of plan.now reduction.0) else unmoved self.old)) }
+    {
+        if !own {
+            return Ok(Outbox::new(alloc));
+        }
+        match plan.reductions.get(reduction.0 as usize) {
+            None => Ok(Outbox::new(alloc)),
+            Some(x) => {
+                let key = RefKey {
+                    iteration,
+                    port: Port::Total(reduction),
+                };
+                take_total(plan, x.owner, key, one_value(value), &mut self.objects)?;
+                Ok(Outbox::new(alloc))
+            }
+        }
+    }
+
+    // A node's share of a reduction.
+    fn hear_share(
+        &mut self,
+        alloc: Global,
+        plan: &Plan,
+        own: bool,
+        replica: u8,
+        stamp: Stamp,
+        roster: &Seats,
+        share: Share,
+    ) -> Result<Outbox, Memory>
+        ensures { IfOk result (λ out. record { body = self.new; out = out } ≡ (if own then partial_heard roster.now replica stamp share.reduction share.iteration share.node share.value self.old (reduction_of plan.now share.reduction.0) else unmoved self.old)) }
+    {
+        if !own {
+            return Ok(Outbox::new(alloc));
+        }
+        match plan.reductions.get(share.reduction.0 as usize) {
+            None => Ok(Outbox::new(alloc)),
+            Some(x) => {
+                let sharers = roster.sharers(x.owner);
+                let out = take_share(alloc, replica, stamp, share, x, sharers, &mut self.totals)?;
+                Ok(out)
+            }
+        }
+    }
+
+    // The buddy's piece.
+    fn hear_piece(
+        &mut self,
+        alloc: Global,
+        plan: &Plan,
+        own: Stamp,
+        node: u16,
+        stamp: Stamp,
+        piece: Piece,
+    ) -> Result<Outbox, Memory>
+        ensures { IfOk result (λ out. record { body = self.new; out = out } ≡ piece_heard plan.now own node stamp piece self.old) }
+    {
+        let fits = piece.node == node && is_new(stamp, &piece, &self.other);
+        if !fits {
+            return Ok(Outbox::new(alloc));
+        }
+        let mut out = Outbox::new(alloc);
+        self.other = Some(Held { stamp, piece });
+        send_compared(alloc, plan, own, &self.fresh, &self.other, &mut out)?;
+        Ok(out)
+    }
+
+    // Packs: its elements have completed k iterations.
+    pub(crate) fn pack(
+        &mut self,
+        alloc: Global,
+        plan: &Plan,
+        slot: SlotId,
+        stamp: Stamp,
+        k: u64,
+    ) -> Result<Outbox, Memory>
+        requires { AllByRecursion (Fits plan.now) self.old.objects }
+        ensures { IfOk result (λ out. record { body = self.new; out = out } ≡ body_packed plan.now slot stamp self.old (piece_of plan.now k slot.node self.old.objects)) }
+    {
+        let piece = pack_objects(alloc, plan, k, slot.node, self.objects.as_slice())?;
+        let mut out = Outbox::new(alloc);
+        send_packed(alloc, plan, slot, stamp, &piece, &self.other, &mut out)?;
+        self.fresh = Some(piece);
+        Ok(out)
+    }
+}
+
+// A message comes to the object of a number.
+fn take_parcel(
+    seat: Option<u32>,
+    iteration: u64,
+    entry: EntryId,
+    payload: Payload,
+    objects: &mut Vec<Object>,
+) -> Result<(), Memory>
+    ensures { OnOk result (objects.new.items ≡ taken_at iteration entry payload objects.old.items seat) }
+{
+    if let Some(i) = seat {
+        take_at(i, iteration, entry, payload, objects)?;
+    }
+    Ok(())
+}
+
+fn take_at(
+    i: u32,
+    iteration: u64,
+    entry: EntryId,
+    payload: Payload,
+    objects: &mut Vec<Object>,
+) -> Result<(), Memory>
+    ensures { OnOk result (objects.new.items ≡ taken_by iteration entry payload objects.old.items i (slice_get objects.old.items i)) }
+{
+    if (i as usize) < objects.len() {
+        let key = RefKey {
+            iteration,
+            port: Port::Entry(entry),
+        };
+        take(&mut objects[i as usize], key, payload)?;
+    }
+    Ok(())
+}
+
+// A total comes to each element of an array.
+fn take_total(
+    plan: &Plan,
+    array: u16,
+    key: RefKey,
+    payload: Payload,
+    objects: &mut Vec<Object>,
+) -> Result<(), Memory>
+    ensures { OnOk result (objects.new.items ≡ map (taken_in plan.now array key payload) objects.old.items) }
+{
+    for i in 0..objects.len() {
+        take_in(plan, array, key, payload, &mut objects[i])?;
+    }
+    Ok(())
+}
+
+fn take_in(
+    plan: &Plan,
+    array: u16,
+    key: RefKey,
+    payload: Payload,
+    object: &mut Object,
+) -> Result<(), Memory>
+    ensures { OnOk result (object.new ≡ taken_in plan.now array key payload object.old) }
+{
+    if plan.place(object.element()).array == array {
+        take(object, key, payload)?;
+    }
+    Ok(())
+}
+
+fn one_value(value: i64) -> Payload
+    ensures { result ≡ one_value value }
+{
+    let mut values = [0; 8];
+    values[0] = value;
+    Payload { count: 1, values }
+}
+
+// A node's share is counted, and once none is missing the total goes to all sharers.
+fn take_share(
+    alloc: Global,
+    replica: u8,
+    stamp: Stamp,
+    share: Share,
+    x: &Reduction,
+    sharers: &[u16],
+    totals: &mut Vec<Tally>,
+) -> Result<Outbox, Memory>
+    requires { length sharers.now ≤ 65535 }
+    ensures { (b : Body) → IfOk result (λ out. record { body = with_totals b totals.new.items; out = out } ≡ share_heard replica stamp share.reduction share.iteration share.value x.now sharers.now (with_totals b totals.old.items) (number_in 0 sharers.now share.node)) }
+{
+    let mut out = Outbox::new(alloc);
+    match number_in(sharers, share.node) {
+        None => Ok(out),
+        Some(rank) => {
+            let total = count_in(
+                alloc,
+                x.how,
+                sharers.len() as u32,
+                rank,
+                share.reduction,
+                share.iteration,
+                share.value,
+                totals,
+            )?;
+            send_totals(
+                replica,
+                stamp,
+                share.reduction,
+                share.iteration,
+                sharers,
+                total,
+                &mut out,
+            )?;
+            Ok(out)
+        }
+    }
+}

@@ -1,0 +1,512 @@
+//! A slot's node.
+
+ghost use Rattle.std.specs.Prelude.{◌≡◌, ◌≤◌, ◌<◌, ◌*◌, ◌+◌, ◌^◌, ◌++◌, ◌&&◌, if◌then◌else◌, ℕ, Bool, true, false, length, map, is_none, IfOk, IfSome, OnErr, OnOk, IsErr};
+ghost use Rattle.std.specs.List.{AllByRecursion};
+ghost use Rattle.chare_base.specs.Elements.{elements};
+ghost use Rattle.chare_base.specs.Placing.{members};
+ghost use Rattle.fault_script.specs.Lines.{faults_of};
+ghost use Rattle.object_steps.specs.Objects.{Fits};
+ghost use Rattle.node_core.specs.Keeps.{Fitted, FittedBody};
+ghost use Rattle.node_core.specs.Nodes.{all_at, can_run_by, first_running, has_packed, next_begin, node_can_run, node_from, node_heard, node_heard_by, node_packed, node_packed_by, node_ran, node_ran_by, node_turned, rests, seated_in};
+ghost use Rattle.node_core.specs.Starts.{flips_replica, replica_flips, start_state, started_if, starts};
+
+use crate::live::{Live, all_at, first_running, idle, next_begin};
+use crate::object::can_run;
+use crate::piece::pack_objects;
+use crate::roster::Seats;
+use crate::turn::Turn;
+use chare_base::memory::Memory;
+use chare_base::placement::Placement;
+use chare_base::plan::{ElementId, Plan};
+use chare_base::slots::{LineSet, SlotId};
+use chare_eval::effects::Effects;
+use chare_eval::start::start_cells;
+use fault_script::fault::{Fault, FaultLine};
+use fault_script::script::Script;
+use letter_post::letter::Letter;
+use letter_post::order::LastOrder;
+use letter_post::outbox::Outbox;
+use letter_post::stamp::Stamp;
+use object_steps::laws::objects_follow;
+use object_steps::object::Object;
+use std::alloc::Global;
+use std::marker::Model;
+
+/// A slot's node: its elements' objects, what it gathers of their contributions, and its pieces of checkpoints.
+///
+/// Contracts see a `NodeState` of `specs/Nodes`. Each call that takes a plan, a script and a placement is given the ones
+/// that the node was started with; `Fitted` is what holds of the node by the plan, and the law `nodes_keep` says what
+/// holds of it by all three. After `Memory` a node answers `Memory` to every later call that takes memory.
+#[derive(Drop)]
+pub struct Node {
+    slot: SlotId,
+    last: LastOrder,
+    roster: Seats,
+    body: Option<Live>,
+    // What the element that ran last sent, to use its memory again.
+    effects: Effects,
+    over: bool,
+}
+
+impl Model for Node {
+    ghost use Rattle.node_core.specs.Nodes.{NodeState};
+
+    ghost Value = { NodeState };
+
+    ghost view = { λ n. record { slot = n.slot; last = n.last; roster = n.roster; body = n.body; over = n.over } };
+}
+
+impl Node {
+    /// A slot's node at the opening: its elements before iteration 0, and their piece of the checkpoint as its base.
+    /// Its stamp has epoch 0 and those lines of `live` that are flips of its replica.
+    ///
+    /// `Memory`: an allocation was refused.
+    #[tactic(auto, unfolding(crate::specs::Starts::start_state))]
+    pub fn start<M: Placement>(
+        alloc: Global,
+        plan: &Plan,
+        script: &Script,
+        map: &M,
+        slot: SlotId,
+        live: LineSet,
+    ) -> Result<Node, Memory>
+        requires { length (M.place map.now) ≡ elements plan.now }
+        ensures { IfOk result (λ node. node ≡ start_state plan.now (faults_of script.now) (M.place map.now) slot live) }
+    {
+        let roster = Seats::start(alloc, plan, map, slot.node)?;
+        let objects = start_objects(alloc, plan, map, slot.node)?;
+        let base = pack_objects(alloc, plan, 0, slot.node, objects.as_slice())?;
+        let stamp = Stamp {
+            replica: slot.replica,
+            epoch: 0,
+            lines: LineSet(replica_flips(script.as_slice(), slot.replica, live.0)),
+        };
+        let body = Live {
+            objects,
+            gatherings: Vec::new(alloc),
+            totals: Vec::new(alloc),
+            base,
+            fresh: None,
+            other: None,
+            live,
+            loan: None,
+            waits: false,
+        };
+        Ok(Node {
+            slot,
+            last: LastOrder { stamp, base: 0 },
+            roster,
+            body: Some(body),
+            effects: Effects::new(alloc),
+            over: false,
+        })
+    }
+
+    /// Its slot.
+    pub fn slot(&self) -> SlotId
+        ensures { result ≡ self.now.slot }
+    {
+        self.slot
+    }
+
+    /// The stamp of its last order, or of the opening where it had none. A spent node keeps it.
+    pub fn stamp(&self) -> Stamp
+        ensures { result ≡ self.now.last.stamp }
+    {
+        self.last.stamp
+    }
+
+    /// Whether it is spent.
+    pub fn spent(&self) -> bool
+        ensures { result ≡ is_none self.now.body }
+    {
+        self.body.is_none()
+    }
+
+    /// Whether it is spent or waits for Resume.
+    pub fn rests(&self) -> bool
+        ensures { result ≡ rests self.now }
+    {
+        match &self.body {
+            None => true,
+            Some(body) => body.waits,
+        }
+    }
+}
+
+impl Node {
+    /// A turn of one of its elements: it runs its ready part, or between two iterations it begins one below the limit,
+    /// with its flips, and runs the first part of that. What it sent is in the turn's outbox. `Held` and `Awaits` are
+    /// said of that element alone. A node that rests runs nothing, and answers `Awaits`.
+    ///
+    /// `Memory`: an allocation was refused; the node is over.
+    #[tactic(auto, unfolding(crate::specs::Nodes::node_ran))]
+    pub fn run_element<M: Placement>(
+        &mut self,
+        alloc: Global,
+        plan: &Plan,
+        script: &Script,
+        map: &M,
+        e: ElementId,
+        limit: u64,
+    ) -> Result<Turn, Memory>
+        requires fits { Fitted plan.now self.old }
+        requires place { length (M.place map.now) ≡ elements plan.now }
+        ensures ok { IfOk result (λ turn. record { node = self.new; turn = turn } ≡ node_ran plan.now (faults_of script.now) (M.place map.now) limit e.0 self.old) }
+        ensures err { OnErr result (self.new.over ≡ true) }
+        ensures over { self.old.over ≡ true → IsErr result }
+    {
+        if self.over {
+            return Err(Memory);
+        }
+        match run_body(
+            alloc,
+            plan,
+            script,
+            map,
+            self.slot,
+            self.last,
+            &self.roster,
+            e,
+            limit,
+            &mut self.body,
+            &mut self.effects,
+        ) {
+            Ok(turn) => Ok(turn),
+            Err(Memory) => {
+                self.over = true;
+                Err(Memory)
+            }
+        }
+    }
+
+    /// A turn of the least element that can run below the limit. `Held`: none can, and some element is before an
+    /// iteration of the plan, which is the limit or a later one for each that is. `Awaits`: none can, and no element is
+    /// before an iteration of the plan.
+    ///
+    /// `Memory`: an allocation was refused; the node is over.
+    #[tactic(auto, unfolding(crate::specs::Nodes::node_turned))]
+    pub fn turn<M: Placement>(
+        &mut self,
+        alloc: Global,
+        plan: &Plan,
+        script: &Script,
+        map: &M,
+        limit: u64,
+    ) -> Result<Turn, Memory>
+        requires fits { Fitted plan.now self.old }
+        requires place { length (M.place map.now) ≡ elements plan.now }
+        ensures ok { IfOk result (λ turn. record { node = self.new; turn = turn } ≡ node_turned plan.now (faults_of script.now) (M.place map.now) limit self.old) }
+        ensures err { OnErr result (self.new.over ≡ true) }
+        ensures over { self.old.over ≡ true → IsErr result }
+    {
+        if self.over {
+            return Err(Memory);
+        }
+        match self.first_running(plan, limit) {
+            Some(e) => self.run_element(alloc, plan, script, map, e, limit),
+            None => Ok(idle(self.next_begin().is_some())),
+        }
+    }
+
+    /// Hears a letter. A Parcel, a Partial or a Total counts where its whole stamp is the node's own, and is dropped
+    /// elsewhere; an element's queue drops a message whose iteration is over and one that it holds already. A buddy's
+    /// Piece is kept where it takes the place of none, of one of an older epoch or of one at another iteration, and is
+    /// then compared where the own piece at its iteration is there.
+    ///
+    /// `Memory`: an allocation was refused; the node is over.
+    #[tactic(auto, unfolding(crate::specs::Nodes::node_heard))]
+    pub fn hear<M: Placement>(
+        &mut self,
+        alloc: Global,
+        plan: &Plan,
+        script: &Script,
+        map: &M,
+        letter: Letter,
+    ) -> Result<Outbox, Memory>
+        ensures ok { IfOk result (λ out. record { node = self.new; out = out } ≡ node_heard plan.now (faults_of script.now) (M.place map.now) letter self.old) }
+        ensures err { OnErr result (self.new.over ≡ true) }
+        ensures over { self.old.over ≡ true → IsErr result }
+    {
+        if self.over {
+            return Err(Memory);
+        }
+        match hear_body(
+            alloc,
+            plan,
+            script,
+            map,
+            self.slot,
+            self.last,
+            &self.roster,
+            letter,
+            &mut self.body,
+        ) {
+            Ok(out) => Ok(out),
+            Err(Memory) => {
+                self.over = true;
+                Err(Memory)
+            }
+        }
+    }
+
+    /// Packs: its elements have completed k iterations and none has begun the next. The piece is kept fresh. Replica 1
+    /// sends it to its buddy; replica 0 compares it where it holds its buddy's piece at k.
+    ///
+    /// `Memory`: an allocation was refused; the node is over.
+    #[tactic(auto, unfolding(crate::specs::Nodes::node_packed))]
+    pub fn pack(
+        &mut self,
+        alloc: Global,
+        plan: &Plan,
+        script: &Script,
+        k: u64,
+    ) -> Result<Outbox, Memory>
+        requires { Fitted plan.now self.old }
+        ensures ok { IfOk result (λ out. record { node = self.new; out = out } ≡ node_packed plan.now (faults_of script.now) k self.old) }
+        ensures err { OnErr result (self.new.over ≡ true) }
+        ensures over { self.old.over ≡ true → IsErr result }
+    {
+        if self.over {
+            return Err(Memory);
+        }
+        match pack_body(
+            alloc,
+            plan,
+            script,
+            k,
+            self.slot,
+            self.last,
+            &self.roster,
+            &mut self.body,
+        ) {
+            Ok(out) => Ok(out),
+            Err(Memory) => {
+                self.over = true;
+                Err(Memory)
+            }
+        }
+    }
+
+    /// The least iteration that an element would begin; None exactly where no element is before an iteration of the
+    /// plan.
+    #[tactic(auto, unfolding(crate::specs::Nodes::next_begin))]
+    pub fn next_begin(&self) -> Option<u64>
+        ensures { result ≡ next_begin self.now }
+    {
+        match &self.body {
+            None => None,
+            Some(body) => next_begin(self.roster.iterations(), body.objects.as_slice()),
+        }
+    }
+
+    /// Whether one of its elements has a ready part, or would begin an iteration below the limit and of the plan.
+    #[tactic(auto, unfolding(crate::specs::Nodes::node_can_run))]
+    pub fn can_run(&self, plan: &Plan, e: ElementId, limit: u64) -> bool
+        requires { Fitted plan.now self.now }
+        ensures { result ≡ node_can_run plan.now limit self.now e.0 }
+    {
+        match &self.body {
+            None => false,
+            Some(body) => can_run_at(plan, limit, body.objects.as_slice(), self.roster.seat(e)),
+        }
+    }
+
+    /// The least element that has a ready part or would begin an iteration below the limit and of the plan; None where
+    /// there is none, and where the node rests.
+    #[tactic(auto, unfolding(crate::specs::Nodes::first_running))]
+    pub fn first_running(&self, plan: &Plan, limit: u64) -> Option<ElementId>
+        requires { Fitted plan.now self.now }
+        ensures { result ≡ first_running plan.now limit self.now }
+    {
+        match &self.body {
+            None => None,
+            Some(body) => {
+                if body.waits {
+                    return None;
+                }
+                first_running(plan, limit, body.objects.as_slice())
+            }
+        }
+    }
+
+    /// Whether every element has completed k iterations and none has begun the next. A spent node has no elements, and
+    /// answers false.
+    #[tactic(auto, unfolding(crate::specs::Nodes::all_at))]
+    pub fn all_at(&self, k: u64) -> bool
+        ensures { result ≡ all_at k self.now }
+    {
+        match &self.body {
+            None => false,
+            Some(body) => all_at(k, body.objects.as_slice()),
+        }
+    }
+
+    /// Whether it holds a piece of a checkpoint that isn't its base yet.
+    #[tactic(auto, unfolding(crate::specs::Nodes::has_packed))]
+    pub fn has_packed(&self) -> bool
+        ensures { result ≡ has_packed self.now }
+    {
+        match &self.body {
+            None => false,
+            Some(body) => body.fresh.is_some(),
+        }
+    }
+}
+
+fn can_run_at(plan: &Plan, limit: u64, objects: &[Object], seat: Option<u32>) -> bool
+    requires { AllByRecursion (Fits plan.now) objects.now }
+    ensures { result ≡ can_run_by plan.now limit (seated_in objects.now seat) }
+{
+    match seat {
+        None => false,
+        Some(i) => match objects.get(i as usize) {
+            None => false,
+            Some(object) => can_run(plan, limit, object),
+        },
+    }
+}
+
+fn run_body<M: Placement>(
+    alloc: Global,
+    plan: &Plan,
+    script: &Script,
+    map: &M,
+    slot: SlotId,
+    last: LastOrder,
+    roster: &Seats,
+    e: ElementId,
+    limit: u64,
+    body: &mut Option<Live>,
+    effects: &mut Effects,
+) -> Result<Turn, Memory>
+    requires fits { FittedBody plan.now body.old }
+    requires place { length (M.place map.now) ≡ elements plan.now }
+    ensures { (over : Bool) → IfOk result (λ turn. record { node = node_from slot last roster.now over body.new; turn = turn } ≡ node_ran_by plan.now (faults_of script.now) (M.place map.now) limit e.0 (node_from slot last roster.now over body.old) body.old) }
+{
+    match body {
+        None => Ok(Turn::Awaits),
+        Some(live) => {
+            let turn = live.run(
+                alloc, plan, script, map, slot, last.stamp, roster, e, limit, effects,
+            )?;
+            Ok(turn)
+        }
+    }
+}
+
+fn hear_body<M: Placement>(
+    alloc: Global,
+    plan: &Plan,
+    script: &Script,
+    map: &M,
+    slot: SlotId,
+    last: LastOrder,
+    roster: &Seats,
+    letter: Letter,
+    body: &mut Option<Live>,
+) -> Result<Outbox, Memory>
+    ensures { (over : Bool) → IfOk result (λ out. record { node = node_from slot last roster.now over body.new; out = out } ≡ node_heard_by plan.now (faults_of script.now) (M.place map.now) letter (node_from slot last roster.now over body.old) body.old) }
+{
+    match body {
+        None => Ok(Outbox::new(alloc)),
+        Some(live) => {
+            let out = live.hear(alloc, plan, script, map, slot, last.stamp, roster, letter)?;
+            Ok(out)
+        }
+    }
+}
+
+fn pack_body(
+    alloc: Global,
+    plan: &Plan,
+    script: &Script,
+    k: u64,
+    slot: SlotId,
+    last: LastOrder,
+    roster: &Seats,
+    body: &mut Option<Live>,
+) -> Result<Outbox, Memory>
+    requires { FittedBody plan.now body.old }
+    ensures { (over : Bool) → IfOk result (λ out. record { node = node_from slot last roster.now over body.new; out = out } ≡ node_packed_by plan.now (faults_of script.now) k (node_from slot last roster.now over body.old) body.old) }
+{
+    let _ = script;
+    let _ = roster;
+    match body {
+        None => Ok(Outbox::new(alloc)),
+        Some(live) => {
+            let out = live.pack(alloc, plan, slot, last.stamp, k)?;
+            Ok(out)
+        }
+    }
+}
+
+// The objects of a node's elements at the opening.
+fn start_objects<M: Placement>(
+    alloc: Global,
+    plan: &Plan,
+    map: &M,
+    node: u16,
+) -> Result<Vec<Object>, Memory>
+    requires { length (M.place map.now) ≡ elements plan.now }
+    ensures exact { IfOk result (λ all. all.items ≡ starts plan.now (members (M.place map.now) node)) }
+    ensures fits { IfOk result (λ all. AllByRecursion (Fits plan.now) all.items) }
+{
+    let mut all = Vec::new(alloc);
+    for e in 0..plan.elements() {
+        let here = map.node_of(ElementId(e)) == node;
+        start_if(alloc, plan, ElementId(e), here, &mut all)?;
+    }
+    Ok(all)
+}
+
+fn start_if(
+    alloc: Global,
+    plan: &Plan,
+    e: ElementId,
+    here: bool,
+    all: &mut Vec<Object>,
+) -> Result<(), Memory>
+    requires element { e.0 < elements plan.now }
+    requires fits { AllByRecursion (Fits plan.now) all.old.items }
+    ensures exact { OnOk result (all.new.items ≡ all.old.items ++ started_if plan.now e.0 here) }
+    ensures fits { OnOk result (AllByRecursion (Fits plan.now) all.new.items) }
+{
+    objects_follow();
+    if here {
+        let cells = start_cells(alloc, plan, e)?;
+        all.push(Object::start(alloc, plan, e, cells, 0))?;
+    }
+    Ok(())
+}
+
+// Those lines of a set that are flips of a replica.
+fn replica_flips(lines: &[FaultLine], replica: u8, set: u64) -> u64
+    requires { length lines.now ≤ 64 }
+    ensures exact { result ≡ replica_flips replica (faults_of lines.now) set }
+    ensures small { (n : ℕ) → length lines.now ≤ n → result < 2 ^ n }
+{
+    match lines.split_first() {
+        None => 0,
+        Some((line, more)) => {
+            let on = flips_if(set % 2 == 1, line.fault, replica);
+            with_bit(on, replica_flips(more, replica, set / 2))
+        }
+    }
+}
+
+fn flips_if(on: bool, fault: Fault, replica: u8) -> bool
+    ensures { result ≡ (on && flips_replica replica fault) }
+{
+    match fault {
+        Fault::Flip { replica: r, .. } => on && r == replica,
+        Fault::Crash { .. } => false,
+    }
+}
+
+fn with_bit(on: bool, set: u64) -> u64
+    requires { set < 2 ^ 63 }
+    ensures { result ≡ (if on then 1 else 0) + 2 * set }
+{
+    if on { 1 + 2 * set } else { 2 * set }
+}

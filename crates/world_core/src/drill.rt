@@ -1,0 +1,230 @@
+//! Drills: whole runs by a schedule.
+
+ghost use Rattle.std.specs.Prelude.{◌≡◌, ◌≤◌, ◌<◌, ◌+◌, ◌++◌, [], ℕ, suc, length, slice_get, OnOk, IfOk, Err, None, Some};
+ghost use Rattle.std.specs.List.{AllByRecursion};
+ghost use Rattle.chare_base.specs.Elements.{elements};
+ghost use Rattle.fault_script.specs.Lines.{faults_of};
+ghost use Rattle.world_core.specs.Bounds.{capped, turns_bound};
+ghost use Rattle.world_core.specs.Drills.{FaultFree, drilled, scheduled};
+ghost use Rattle.world_core.specs.Sound.{Sound};
+ghost use Rattle.world_core.specs.Steps.{Current, setting};
+ghost use Rattle.world_core.specs.Worlds.{actor_at, chosen_of, drawn, enabled, first_above, goes_on, opening_chooser, picked, reached, ready_from, stirred};
+
+use crate::event::{Actor, Chooser};
+use crate::fault::DrillFault;
+use crate::laws::{sound_worlds_serve, worlds_are_sound};
+use crate::turns::turns;
+use crate::world::World;
+use chare_base::memory::Memory;
+use chare_base::options::Options;
+use chare_base::placement::{BlockMap, Placement};
+use chare_base::plan::Plan;
+use chare_base::slots::SlotId;
+use conductor_core::ending::Ending;
+use fault_script::script::Script;
+use std::alloc::Global;
+
+/// Runs a job by a schedule, each node with a block of elements, to its ending. Schedule 0 goes round the actors;
+/// another number draws among those that have an event.
+///
+/// `Still`: the run hasn't ended where no actor has an event, or where the turns that `turns_bound` allows have run out.
+/// `Memory`: an allocation was refused.
+#[tactic(auto, unfolding(crate::specs::Drills::drilled))]
+pub fn drill(
+    alloc: Global,
+    plan: &Plan,
+    script: &Script,
+    options: &Options,
+    schedule: u64,
+) -> Result<Ending, DrillFault>
+    requires some { 1 ≤ options.now.nodes }
+    requires few { options.now.nodes ≤ elements plan.now }
+    ensures outcome { IfOk result (λ ending. (drilled plan.now script.now options.now schedule).conductor.outcome ≡ Some ending.outcome) }
+    ensures records { IfOk result (λ ending. ending.records.items ≡ (drilled plan.now script.now options.now schedule).conductor.records) }
+    ensures marks { IfOk result (λ ending. ending.marks ≡ (drilled plan.now script.now options.now schedule).conductor.marks) }
+    ensures last { IfOk result (λ ending. ending.last ≡ (drilled plan.now script.now options.now schedule).conductor.last) }
+    ensures still { result ≡ Err DrillFault.Still → (drilled plan.now script.now options.now schedule).conductor.outcome ≡ None }
+    ensures lawful { IfOk result (λ ending. script.now ≡ [] → FaultFree plan.now options.now ending) }
+{
+    let map = BlockMap {
+        elements: plan.elements(),
+        nodes: options.nodes,
+    };
+    let world = run(alloc, plan, script, options, &map, schedule)?;
+    match world.end() {
+        Some(ending) => Ok(ending),
+        None => Err(DrillFault::Still),
+    }
+}
+
+/// The world that a schedule reaches, with elements placed in any way.
+///
+/// `Memory`: an allocation was refused.
+pub fn run<M: Placement>(
+    alloc: Global,
+    plan: &Plan,
+    script: &Script,
+    options: &Options,
+    map: &M,
+    schedule: u64,
+) -> Result<World, Memory>
+    requires place { length (M.place map.now) ≡ elements plan.now }
+    requires nodes { M.count map.now ≡ options.now.nodes }
+    ensures reached { IfOk result (λ w. w ≡ scheduled (setting plan.now (faults_of script.now) (M.place map.now) (M.count map.now)) (capped (turns_bound plan.now (length script.now) (M.count map.now))) schedule) }
+    ensures sound { IfOk result (λ w. Sound (setting plan.now (faults_of script.now) (M.place map.now) (M.count map.now)) w) }
+{
+    worlds_are_sound();
+    let nodes = map.nodes();
+    let turns = turns(plan, script.len(), nodes);
+    let mut world = World::start(alloc, plan, script, options, map)?;
+    go(alloc, plan, script, map, opening_chooser(nodes, schedule), turns, &mut world)?;
+    Ok(world)
+}
+
+// Takes the events that a chooser picks, at most so many.
+fn go<M: Placement>(
+    alloc: Global,
+    plan: &Plan,
+    script: &Script,
+    map: &M,
+    chooser: Chooser,
+    turns: u64,
+    world: &mut World,
+) -> Result<(), Memory>
+    requires place { length (M.place map.now) ≡ elements plan.now }
+    requires sound { Sound (setting plan.now (faults_of script.now) (M.place map.now) (M.count map.now)) world.old }
+    ensures reached { OnOk result (let s = setting plan.now (faults_of script.now) (M.place map.now) (M.count map.now) in world.new ≡ reached s world.old (picked s turns chooser world.old)) }
+    ensures sound { OnOk result (Sound (setting plan.now (faults_of script.now) (M.place map.now) (M.count map.now)) world.new) }
+{
+    worlds_are_sound();
+    sound_worlds_serve();
+    let nodes = map.nodes();
+    let mut ready = Vec::new(alloc);
+    let mut left = turns;
+    let mut chooser = chooser;
+    while left > 0 {
+        ready.clear();
+        find_ready(plan, map, world, &mut ready)?;
+        let Some(i) = chosen_of(chooser, ready.as_slice()) else {
+            return Ok(());
+        };
+        let Some(event) = world.enabled(plan, map, actor_at(nodes, i)) else {
+            return Ok(());
+        };
+        world.happen(alloc, plan, script, map, event)?;
+        chooser = goes_on(chooser, i);
+        left -= 1;
+    }
+    Ok(())
+}
+
+// The numbers of the actors that have an event.
+fn find_ready<M: Placement>(
+    plan: &Plan,
+    map: &M,
+    world: &World,
+    ready: &mut Vec<usize>,
+) -> Result<(), Memory>
+    requires { AllByRecursion (Current plan.now) world.now.posts.slots }
+    ensures { OnOk result (ready.new.items ≡ ready.old.items ++ ready_from plan.now (M.count map.now) world.now 0 (suc (M.count map.now + M.count map.now))) }
+{
+    let nodes = map.nodes();
+    let actors = 2 * nodes as usize + 1;
+    for i in 0..actors {
+        if world.enabled(plan, map, actor_at(nodes, i)).is_some() {
+            ready.push(i)?;
+        }
+    }
+    Ok(())
+}
+
+// The actor of a number.
+fn actor_at(nodes: u16, i: usize) -> Actor
+    ensures { result ≡ actor_at nodes i }
+{
+    let count = nodes as usize;
+    if i < count {
+        return Actor::Slot(SlotId {
+            replica: 0,
+            node: i as u16,
+        });
+    }
+    if i < count + count {
+        return Actor::Slot(SlotId {
+            replica: 1,
+            node: (i - count) as u16,
+        });
+    }
+    Actor::Conductor
+}
+
+fn opening_chooser(nodes: u16, schedule: u64) -> Chooser
+    ensures { result ≡ opening_chooser nodes schedule }
+{
+    if schedule == 0 {
+        Chooser::Round {
+            last: nodes as usize + nodes as usize,
+        }
+    } else {
+        Chooser::Draw { random: schedule }
+    }
+}
+
+// Which of these actors is taken.
+fn chosen_of(chooser: Chooser, ready: &[usize]) -> Option<usize>
+    ensures { result ≡ chosen_of chooser ready.now }
+{
+    match chooser {
+        Chooser::Round { last } => next_round(last, ready),
+        Chooser::Draw { random } => draw(stirred(random), ready),
+    }
+}
+
+fn next_round(last: usize, ready: &[usize]) -> Option<usize>
+    ensures { result ≡ chosen_of (Chooser.Round last) ready.now }
+{
+    match first_above(last, ready) {
+        Some(i) => Some(i),
+        None => ready.first().copied(),
+    }
+}
+
+fn first_above(last: usize, ready: &[usize]) -> Option<usize>
+    ensures { result ≡ first_above last ready.now }
+{
+    for i in ready {
+        if last < *i {
+            return Some(*i);
+        }
+    }
+    None
+}
+
+fn draw(random: u64, ready: &[usize]) -> Option<usize>
+    ensures { result ≡ slice_get ready.now (drawn random (length ready.now)) }
+{
+    if ready.is_empty() {
+        return None;
+    }
+    let at = (random / 8589934592) % ready.len() as u64;
+    ready.get(at as usize).copied()
+}
+
+fn stirred(random: u64) -> u64
+    ensures { result ≡ stirred random }
+{
+    random
+        .wrapping_mul(6364136223846793005)
+        .wrapping_add(1442695040888963407)
+}
+
+fn goes_on(chooser: Chooser, i: usize) -> Chooser
+    ensures { result ≡ goes_on chooser i }
+{
+    match chooser {
+        Chooser::Round { .. } => Chooser::Round { last: i },
+        Chooser::Draw { random } => Chooser::Draw {
+            random: stirred(random),
+        },
+    }
+}

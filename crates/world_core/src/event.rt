@@ -1,0 +1,36 @@
+//! Actors and events.
+
+use chare_base::plan::ElementId;
+use chare_base::slots::SlotId;
+
+/// Who makes events.
+#[derive(Clone, Copy, Debug, PartialEq, Eq)]
+pub enum Actor {
+    Slot(SlotId),
+    Conductor,
+}
+
+/// One event of a run.
+#[derive(Clone, Copy, Debug, PartialEq, Eq)]
+pub enum Event {
+    /// A slot runs a part of a step of an element that can run; an element between two iterations begins the next.
+    Run { slot: SlotId, element: ElementId },
+    /// A slot hears the first letter of its inbox.
+    Hear { slot: SlotId },
+    /// A slot makes a move: once all its elements have completed all iterations it packs.
+    Move { slot: SlotId },
+    /// The conductor hears the first letter of its inbox.
+    ConductorHear,
+    /// The conductor makes a move; it has none yet.
+    ConductorMove,
+}
+
+/// How a drill goes on to choose actors. They are numbered: the slots of replica 0 by node, those of replica 1, the
+/// conductor.
+#[derive(Clone, Copy, Debug, PartialEq, Eq)]
+pub enum Chooser {
+    /// Round the actors, from the one after this one.
+    Round { last: usize },
+    /// By the generator, from this number on.
+    Draw { random: u64 },
+}

@@ -1,0 +1,225 @@
+//! A slot with its inbox.
+
+ghost use Rattle.std.specs.Prelude.{◌≡◌, ◌<◌, ◌==◌, ◌&&◌, ◌++◌, ◌∷◌, [], ℕ, length, true, OnOk, IfOk, Some};
+ghost use Rattle.chare_base.specs.Elements.{elements};
+ghost use Rattle.fault_script.specs.Lines.{faults_of};
+ghost use Rattle.node_core.specs.Keeps.{Capped, Fitted, Keeps};
+ghost use Rattle.node_core.specs.Nodes.{node_can_run, node_packed, node_ran, out_of, outcome_of, rests};
+ghost use Rattle.node_core.specs.Starts.{start_state};
+ghost use Rattle.world_core.specs.Sound.{SlotSound};
+ghost use Rattle.world_core.specs.Steps.{Acted, acted, can_hear, can_move, can_run_on, has_letter, heard_first, setting};
+ghost use Rattle.world_core.specs.Worlds.{doing_of, move_due, node_doing, renewed, slot_put};
+
+use crate::doing::Doing;
+use crate::inbox::Inbox;
+use chare_base::memory::Memory;
+use chare_base::placement::Placement;
+use chare_base::plan::{ElementId, Plan};
+use chare_base::slots::{LineSet, SlotId};
+use fault_script::script::Script;
+use letter_post::letter::Letter;
+use letter_post::outbox::Outbox;
+use node_core::laws::nodes_keep;
+use node_core::node::Node;
+use node_core::turn::Turn;
+use std::alloc::Global;
+use std::marker::Model;
+
+/// A slot: its node, its inbox, and what it would do next, kept so that it needn't be worked out at each turn.
+#[derive(Drop)]
+pub struct Slot {
+    node: Node,
+    inbox: Inbox,
+    doing: Option<Doing>,
+}
+
+impl Model for Slot {
+    ghost use Rattle.world_core.specs.Worlds.{SlotState};
+
+    ghost Value = { SlotState };
+
+    ghost view = { λ s. record { node = s.node; box = s.inbox; doing = s.doing } };
+}
+
+impl Slot {
+    /// A slot at the opening, with an empty inbox.
+    ///
+    /// `Memory`: an allocation was refused.
+    pub fn start<M: Placement>(
+        alloc: Global,
+        plan: &Plan,
+        script: &Script,
+        map: &M,
+        slot: SlotId,
+        live: LineSet,
+    ) -> Result<Slot, Memory>
+        requires { length (M.place map.now) ≡ elements plan.now }
+        ensures { IfOk result (λ x. x ≡ renewed plan.now (start_state plan.now (faults_of script.now) (M.place map.now) slot live) []) }
+    {
+        nodes_keep();
+        let node = Node::start(alloc, plan, script, map, slot, live)?;
+        let doing = node_doing(plan, &node);
+        Ok(Slot {
+            node,
+            inbox: Inbox::new(alloc),
+            doing,
+        })
+    }
+
+    /// What it would do next.
+    pub fn doing(&self) -> Option<Doing>
+        ensures { result ≡ self.now.doing }
+    {
+        self.doing
+    }
+
+    /// Whether this is its name.
+    pub fn is(&self, slot: SlotId) -> bool
+        ensures { result ≡ (self.now.node.slot.replica == slot.replica && self.now.node.slot.node == slot.node) }
+    {
+        let own = self.node.slot();
+        own.replica == slot.replica && own.node == slot.node
+    }
+
+    /// Whether this element of it can run.
+    pub fn can_run(&self, plan: &Plan, e: ElementId) -> bool
+        requires { Fitted plan.now self.now.node }
+        ensures { result ≡ can_run_on plan.now e (Some self.now) }
+    {
+        !self.node.rests() && self.node.can_run(plan, e, plan.iterations())
+    }
+
+    /// Whether a letter is there.
+    pub fn can_hear(&self) -> bool
+        ensures { result ≡ can_hear (Some self.now) }
+    {
+        self.inbox.has_letter()
+    }
+
+    /// Whether it has a move to make.
+    pub fn can_move(&self, plan: &Plan) -> bool
+        ensures { result ≡ can_move plan.now (Some self.now) }
+    {
+        move_due(plan, &self.node)
+    }
+
+    /// A letter comes, at the back of its inbox.
+    ///
+    /// `Memory`: an allocation was refused, and all is as before.
+    pub fn put(&mut self, letter: Letter) -> Result<(), Memory>
+        ensures { OnOk result (self.new ≡ slot_put letter self.old) }
+    {
+        self.inbox.push(letter)?;
+        self.doing = Some(Doing::Hear);
+        Ok(())
+    }
+
+    /// Runs an element.
+    ///
+    /// `Memory`: an allocation was refused; the slot is of no further use.
+    pub fn run<M: Placement>(
+        &mut self,
+        alloc: Global,
+        plan: &Plan,
+        script: &Script,
+        map: &M,
+        e: ElementId,
+    ) -> Result<Outbox, Memory>
+        requires place { length (M.place map.now) ≡ elements plan.now }
+        requires sound { SlotSound (setting plan.now (faults_of script.now) (M.place map.now) (M.count map.now)) self.old }
+        ensures { IfOk result (λ out. record { slot = self.new; out = out } ≡ acted plan.now (outcome_of (node_ran plan.now (faults_of script.now) (M.place map.now) plan.now.iterations e.0 self.old.node)) self.old.box) }
+    {
+        nodes_keep();
+        let turn = self.node.run_element(alloc, plan, script, map, e, plan.iterations())?;
+        self.doing = doing_of(plan, &self.node, &self.inbox);
+        Ok(sent_by(alloc, turn))
+    }
+
+    /// Hears its first letter, where there is one.
+    ///
+    /// `Memory`: an allocation was refused; the slot is of no further use.
+    pub fn hear<M: Placement>(
+        &mut self,
+        alloc: Global,
+        plan: &Plan,
+        script: &Script,
+        map: &M,
+    ) -> Result<Outbox, Memory>
+        requires { SlotSound (setting plan.now (faults_of script.now) (M.place map.now) (M.count map.now)) self.old }
+        ensures { IfOk result (λ out. record { slot = self.new; out = out } ≡ heard_first (setting plan.now (faults_of script.now) (M.place map.now) (M.count map.now)) self.old self.old.box) }
+    {
+        nodes_keep();
+        match self.inbox.take() {
+            Some(letter) => {
+                let out = self.node.hear(alloc, plan, script, map, letter)?;
+                self.doing = doing_of(plan, &self.node, &self.inbox);
+                Ok(out)
+            }
+            None => Ok(Outbox::new(alloc)),
+        }
+    }
+
+    /// Packs the last iteration: all its elements have completed it.
+    ///
+    /// `Memory`: an allocation was refused; the slot is of no further use.
+    pub fn pack<M: Placement>(
+        &mut self,
+        alloc: Global,
+        plan: &Plan,
+        script: &Script,
+        map: &M,
+    ) -> Result<Outbox, Memory>
+        requires due { move_due plan.now self.old.node ≡ true }
+        requires sound { SlotSound (setting plan.now (faults_of script.now) (M.place map.now) (M.count map.now)) self.old }
+        ensures { IfOk result (λ out. record { slot = self.new; out = out } ≡ acted plan.now (node_packed plan.now (faults_of script.now) plan.now.iterations self.old.node) self.old.box) }
+    {
+        let _ = map;
+        nodes_keep();
+        let out = self.node.pack(alloc, plan, script, plan.iterations())?;
+        self.doing = doing_of(plan, &self.node, &self.inbox);
+        Ok(out)
+    }
+}
+
+// What a slot would do next.
+fn doing_of(plan: &Plan, node: &Node, inbox: &Inbox) -> Option<Doing>
+    requires { Fitted plan.now node.now }
+    ensures { result ≡ doing_of plan.now node.now inbox.now }
+{
+    if inbox.has_letter() {
+        Some(Doing::Hear)
+    } else {
+        node_doing(plan, node)
+    }
+}
+
+fn node_doing(plan: &Plan, node: &Node) -> Option<Doing>
+    requires { Fitted plan.now node.now }
+    ensures { result ≡ node_doing plan.now node.now }
+{
+    if move_due(plan, node) {
+        return Some(Doing::Move);
+    }
+    match node.first_running(plan, plan.iterations()) {
+        Some(e) => Some(Doing::Run(e)),
+        None => None,
+    }
+}
+
+fn move_due(plan: &Plan, node: &Node) -> bool
+    ensures { result ≡ move_due plan.now node.now }
+{
+    !node.rests() && node.all_at(plan.iterations()) && !node.has_packed()
+}
+
+// The letters of a turn.
+fn sent_by(alloc: Global, turn: Turn) -> Outbox
+    ensures { result ≡ out_of turn }
+{
+    match turn {
+        Turn::Ran { outbox, .. } => outbox,
+        Turn::Held => Outbox::new(alloc),
+        Turn::Awaits => Outbox::new(alloc),
+        Turn::Dies { .. } => Outbox::new(alloc),
+    }
+}

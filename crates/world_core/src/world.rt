@@ -1,0 +1,219 @@
+//! The world of a run.
+
+ghost use Rattle.std.specs.Prelude.{◌≡◌, ◌↔◌, ℕ, List, [], length, true, false, Err, OnOk, IfOk, OnErr, MatchOption, is_some, None, Some, IfSome, IsNone};
+ghost use Rattle.std.specs.List.{AllByRecursion};
+ghost use Rattle.chare_base.specs.Elements.{elements};
+ghost use Rattle.fault_script.specs.Lines.{faults_of};
+ghost use Rattle.node_core.specs.Keeps.{Fitted};
+ghost use Rattle.world_core.specs.Sound.{Sound};
+ghost use Rattle.world_core.specs.Steps.{Current, is_enabled, setting};
+ghost use Rattle.world_core.specs.Worlds.{desk_event, enabled, happens, opening_world};
+
+use crate::event::{Actor, Event};
+use crate::fault::StepFault;
+use crate::inbox::Inbox;
+use crate::laws::sound_worlds_serve;
+use crate::posts::{deliver, event_due, hear_at, move_at, run_at, slot_event, start_slots};
+use crate::slot::Slot;
+use chare_base::memory::Memory;
+use chare_base::options::Options;
+use chare_base::placement::Placement;
+use chare_base::plan::Plan;
+use conductor_core::conductor::Conductor;
+use conductor_core::ending::Ending;
+use fault_script::script::Script;
+use std::alloc::Global;
+use std::marker::Model;
+
+/// The world of a run: the slots of both replicas with their nodes and inboxes, and the conductor with its own inbox.
+///
+/// Contracts see a `WorldState` of `specs/Worlds`. Each call is given the plan, the script and the placement with which
+/// the world was started. `Sound` is what holds of every world that events reach, by the law `worlds_are_sound`; what
+/// calls ask of a world follows from it by the law `sound_worlds_serve`.
+#[derive(Drop)]
+pub struct World {
+    slots: Vec<Slot>,
+    desk: Inbox,
+    conductor: Conductor,
+    over: bool,
+}
+
+impl Model for World {
+    ghost use Rattle.world_core.specs.Worlds.{WorldState};
+
+    ghost Value = { WorldState };
+
+    ghost view = { λ w. record { posts = record { slots = w.slots.items; desk = w.desk }; conductor = w.conductor; over = w.over } };
+}
+
+impl World {
+    /// The world of a run at its start: every element at the opening, in both replicas, and no letter.
+    ///
+    /// `Memory`: an allocation was refused.
+    #[tactic(auto, unfolding(crate::specs::Worlds::opening_world))]
+    pub fn start<M: Placement>(
+        alloc: Global,
+        plan: &Plan,
+        script: &Script,
+        options: &Options,
+        map: &M,
+    ) -> Result<World, Memory>
+        requires place { length (M.place map.now) ≡ elements plan.now }
+        requires nodes { M.count map.now ≡ options.now.nodes }
+        ensures { IfOk result (λ w. w ≡ opening_world (setting plan.now (faults_of script.now) (M.place map.now) (M.count map.now))) }
+    {
+        let mut slots = Vec::new(alloc);
+        start_slots(alloc, plan, script, map, 0, &mut slots)?;
+        start_slots(alloc, plan, script, map, 1, &mut slots)?;
+        Ok(World {
+            slots,
+            desk: Inbox::new(alloc),
+            conductor: Conductor::start(alloc, plan, script, options)?,
+            over: false,
+        })
+    }
+
+    /// The conductor.
+    pub fn conductor(&self) -> &Conductor
+        ensures { result.now ≡ self.now.conductor }
+    {
+        &self.conductor
+    }
+
+    /// The event that an actor would make: a slot hears before it moves, and moves before it runs its least element that
+    /// can run. None exactly where it has none; nobody has one once the run has ended. It takes no memory, and no more
+    /// time than finding the slot.
+    #[tactic(auto, unfolding(crate::specs::Worlds::enabled))]
+    pub fn enabled<M: Placement>(&self, plan: &Plan, map: &M, actor: Actor) -> Option<Event>
+        requires { AllByRecursion (Current plan.now) self.now.posts.slots }
+        ensures { result ≡ enabled plan.now (M.count map.now) self.now actor }
+    {
+        if self.conductor.ended() {
+            return None;
+        }
+        match actor {
+            Actor::Slot(slot) => slot_event(plan, map.nodes(), self.slots.as_slice(), slot),
+            Actor::Conductor => desk_event(&self.desk),
+        }
+    }
+
+    /// Whether an event can happen. More events can than those that their actors would make: a slot's elements can run
+    /// in any order, whatever lies in its inbox. None can once the run has ended. It takes no memory.
+    #[tactic(auto, unfolding(crate::specs::Steps::is_enabled))]
+    pub fn is_enabled<M: Placement>(&self, plan: &Plan, map: &M, event: Event) -> bool
+        requires { AllByRecursion (λ x. Fitted plan.now x.node) self.now.posts.slots }
+        ensures { result ≡ is_enabled plan.now (M.count map.now) self.now event }
+    {
+        if self.conductor.ended() {
+            return false;
+        }
+        event_due(plan, map.nodes(), self.slots.as_slice(), &self.desk, event)
+    }
+
+    /// An event happens: what it sends is put at the backs of inboxes.
+    ///
+    /// `NotEnabled`: exactly where the event can't happen. `Memory`: an allocation was refused; the world is over.
+    pub fn step<M: Placement>(
+        &mut self,
+        alloc: Global,
+        plan: &Plan,
+        script: &Script,
+        map: &M,
+        event: Event,
+    ) -> Result<(), StepFault>
+        requires place { length (M.place map.now) ≡ elements plan.now }
+        requires sound { Sound (setting plan.now (faults_of script.now) (M.place map.now) (M.count map.now)) self.old }
+        requires going { self.old.over ≡ false }
+        ensures ok { OnOk result (self.new ≡ happens (setting plan.now (faults_of script.now) (M.place map.now) (M.count map.now)) self.old event) }
+        ensures refused { (result ≡ Err StepFault.NotEnabled) ↔ (is_enabled plan.now (M.count map.now) self.old event ≡ false) }
+        ensures unchanged { result ≡ Err StepFault.NotEnabled → self.new ≡ self.old }
+        ensures over { result ≡ Err StepFault.Memory → self.new.over ≡ true }
+    {
+        sound_worlds_serve();
+        if !self.is_enabled(plan, map, event) {
+            return Err(StepFault::NotEnabled);
+        }
+        match self.happen(alloc, plan, script, map, event) {
+            Ok(()) => Ok(()),
+            Err(Memory) => {
+                self.over = true;
+                Err(StepFault::Memory)
+            }
+        }
+    }
+
+    // An event happens, enabled or not.
+    #[tactic(auto, unfolding(crate::specs::Worlds::happens))]
+    pub(crate) fn happen<M: Placement>(
+        &mut self,
+        alloc: Global,
+        plan: &Plan,
+        script: &Script,
+        map: &M,
+        event: Event,
+    ) -> Result<(), Memory>
+        requires place { length (M.place map.now) ≡ elements plan.now }
+        requires sound { Sound (setting plan.now (faults_of script.now) (M.place map.now) (M.count map.now)) self.old }
+        ensures { OnOk result (self.new ≡ happens (setting plan.now (faults_of script.now) (M.place map.now) (M.count map.now)) self.old event) }
+    {
+        match event {
+            Event::Run { slot, element } => run_at(
+                alloc,
+                plan,
+                script,
+                map,
+                slot,
+                element,
+                &mut self.slots,
+                &mut self.desk,
+            ),
+            Event::Hear { slot } => hear_at(
+                alloc,
+                plan,
+                script,
+                map,
+                slot,
+                &mut self.slots,
+                &mut self.desk,
+            ),
+            Event::Move { slot } => move_at(
+                alloc,
+                plan,
+                script,
+                map,
+                slot,
+                &mut self.slots,
+                &mut self.desk,
+            ),
+            Event::ConductorHear => match self.desk.take() {
+                Some(letter) => {
+                    let out = self.conductor.hear(alloc, plan, map, letter)?;
+                    deliver(map.nodes(), out, &mut self.slots, &mut self.desk)
+                }
+                None => Ok(()),
+            },
+            Event::ConductorMove => Ok(()),
+        }
+    }
+
+    /// What the run leaves; None exactly where it hasn't ended. The world is given up then too. It takes no memory.
+    pub fn end(self) -> Option<Ending>
+        ensures none { IsNone result ↔ (self.conductor.outcome ≡ None) }
+        ensures outcome { IfSome result (λ ending. self.conductor.outcome ≡ Some ending.outcome) }
+        ensures records { IfSome result (λ ending. ending.records.items ≡ self.conductor.records) }
+        ensures marks { IfSome result (λ ending. ending.marks ≡ self.conductor.marks) }
+        ensures last { IfSome result (λ ending. ending.last ≡ self.conductor.last) }
+    {
+        self.conductor.end()
+    }
+}
+
+fn desk_event(desk: &Inbox) -> Option<Event>
+    ensures { result ≡ desk_event desk.now }
+{
+    if desk.has_letter() {
+        Some(Event::ConductorHear)
+    } else {
+        None
+    }
+}
