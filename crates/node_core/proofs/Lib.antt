@@ -28,3 +28,5 @@ pub mod Costing
 pub mod Weighing
 pub mod Lowering
 pub mod Firsts
+pub mod Logs
+pub mod Sharers
