@@ -1,3 +1,4 @@
+pub mod Ables
 pub mod Lists
 pub mod Caps
 pub mod Steady
