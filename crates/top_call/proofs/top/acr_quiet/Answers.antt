@@ -7,3 +7,9 @@ use Rattle.top_call.specs.declared.status.Status.TheVariants.{Read, Usage}
 
 abbrev failed : ReadFault → Result Bytes ReadFault
 failed f = Err f
+
+pub returns-in-Err-Failed-clause-answer : goal.returns-in-Err-Failed-clause-answer
+returns-in-Err-Failed-clause-answer g c = ?
+
+pub returns-in-Ok-answer_to-clause-answer : goal.returns-in-Ok-answer_to-clause-answer
+returns-in-Ok-answer_to-clause-answer g c = ?
