@@ -351,7 +351,7 @@ module _ (p : Plan) (script : List Fault) (place : List ℕ) (n : NodeState) (ke
   letter_hears (letters.Died stamp slot line) = unmoved_hears 1 (omega arith)
   letter_hears letters.Stop = unmoved_hears 1 (omega arith)
 
-some_weight : (p : Plan) (place : List ℕ) (letter : Letter) → 0 < weight p place letter
+pub some_weight : (p : Plan) (place : List ℕ) (letter : Letter) → 0 < weight p place letter
 some_weight p place (letters.Parcel stamp entry k to payload) = omega arith
 some_weight p place (letters.Partial stamp r k node value) = omega arith
 some_weight p place (letters.Total stamp r k value) = omega arith
