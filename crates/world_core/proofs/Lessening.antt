@@ -119,6 +119,10 @@ module _ (s : Setting) where
     unfolding world_left
     at_most v = few (is_some v.conductor.outcome) (posts_left v.posts)
 
+    over_left : (v : WorldState) → IsSome v.conductor.outcome → world_left s v ≡ 0
+    unfolding world_left
+    over_left v over = ap (λ c. cond c 0 (posts_left v.posts)) over
+
     keeps_at : (slot : SlotId) (x : SlotState) → slot_at s.nodes w.posts.slots slot ≡ Some x → SlotSound s x
     keeps_at slot x h = all_got (SlotSound s) w.posts.slots (number_of s.nodes slot) x sound.slots (slot_is s.nodes w.posts.slots slot x h).there
 
@@ -210,14 +214,11 @@ module _ (s : Setting) where
                 some = some_weight s.plan s.place letter
 
                 which : (hd.out ≡ []) ⊎ IsSome hd.conductor.outcome → Lowers (told_by s w (letter ∷ more))
-                unfolding world_left
                 which (inl nothing) =
                     let out : posts_left (posted s.nodes hd.out (record { slots = w.posts.slots; desk = more })) ≡ posts_left (record { slots = w.posts.slots; desk = more }) =
                     ap (λ l. posts_left (posted s.nodes l (record { slots = w.posts.slots; desk = more }))) nothing in
                     omega (arith, at_most (told_by s w (letter ∷ more)), whole, out, weighs, some)
-                which (inr over) =
-                    let gone : world_left s (told_by s w (letter ∷ more)) ≡ 0 = ap (λ c. cond c 0 (posts_left (posted s.nodes hd.out (record { slots = w.posts.slots; desk = more })))) over in
-                    omega (arith, gone, whole, weighs, some)
+                which (inr over) = omega (arith, over_left (told_by s w (letter ∷ more)) over, whole, weighs, some)
 
 pub event_lowers : FirstRuns → RunsLower → PacksLower → HearsLower → EveryEventLowers
 unfolding enabled
@@ -333,21 +334,22 @@ slot_number nodes slot few within = by slot.replica refl few
     by (suc zero) is h = (nodes + slot.node, omega (arith, within), second (nat_lt (nodes + slot.node) nodes) (nat_lt (nodes + slot.node) (nodes + nodes)) refl refl is)
     by (suc (suc r)) is h = absurd (omega (arith, h))
 
+-- a slot that isn't there makes no event
+away : (s : Setting) (w : WorldState) (slot : SlotId) → slot_at s.nodes w.posts.slots slot ≡ None → enabled s.plan s.nodes w (actors.Slot slot) ≡ None
+unfolding enabled
+away s w slot is = by w.conductor.outcome
+  where
+    by : (o : Option endings.Outcome) → cond {A = Option Event} (is_some o) None (slot_event s.plan slot (slot_at s.nodes w.posts.slots slot)) ≡ None
+    by (Some x) = refl
+    by None = ap (slot_event s.plan slot) is
+
 -- where no actor has an event, none is enabled
 none_enabled : (s : Setting) (w : WorldState) → Afloat s w → ready_actors s w ≡ [] → IsStill s w
 none_enabled s w afloat none actors.Conductor = ap (enabled s.plan s.nodes w) (sym (conductor_at s.nodes)) ∙ none_ready s.plan s.nodes w (suc (s.nodes + s.nodes)) 0 (s.nodes + s.nodes) none (omega arith) (omega arith)
 none_enabled s w afloat none (actors.Slot slot) = by (slot_at s.nodes w.posts.slots slot) refl
   where
-    absent : (o : Option endings.Outcome) → slot_at s.nodes w.posts.slots slot ≡ None → cond {A = Option Event} (is_some o) None (slot_event s.plan slot (slot_at s.nodes w.posts.slots slot)) ≡ None
-    absent (Some x) is = refl
-    absent None is = ap (slot_event s.plan slot) is
-
-    away : slot_at s.nodes w.posts.slots slot ≡ None → enabled s.plan s.nodes w (actors.Slot slot) ≡ None
-    unfolding enabled
-    away is = absent w.conductor.outcome is
-
     by : (o : Option SlotState) → slot_at s.nodes w.posts.slots slot ≡ o → enabled s.plan s.nodes w (actors.Slot slot) ≡ None
-    by None is = away is
+    by None is = away s w slot is
     by (Some x) is =
         let at : Is w.posts.slots s.nodes slot x = slot_is s.nodes w.posts.slots slot x is in
         let f : Framed s (frame_of x) = all_got (λ z. Framed s (frame_of z)) w.posts.slots (number_of s.nodes slot) x (framed s w afloat.frames) at.there in
