@@ -174,7 +174,7 @@ module _ (p : Plan) (place : List ℕ) (nodes : ℕ) (count : node_count place �
 
 -- ---- widths
 
-width_is : (p : Plan) (n : ℕ) → width_below p n ≡ below (width_of p) n
+pub width_is : (p : Plan) (n : ℕ) → width_below p n ≡ below (width_of p) n
 width_is p zero = refl
 width_is p (suc n) = omega (arith, width_is p n)
 

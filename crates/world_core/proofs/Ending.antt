@@ -126,8 +126,7 @@ none_runs p limit (x ∷ more) i o h there = by (can_run p limit x) refl h i the
 -- ---- the end
 
 module _ (waits : laws.Waits) (tells : ReadyTells) (shares : SharesAreSent) (totals : TotalsAreSent) (agree : EqualLinesAgree)
-  (s : Setting) (w : WorldState) (none : s.script ≡ []) (placed : IsPlaced s) (sound : Sound s w) (afloat : Afloat s w) (still : IsStill s w) (going : w.conductor.outcome ≡ None) where
-
+    (s : Setting) (w : WorldState) (none : s.script ≡ []) (placed : IsPlaced s) (sound : Sound s w) (afloat : Afloat s w) (still : IsStill s w) (going : w.conductor.outcome ≡ None) where
   abbrev p : Plan
   p = s.plan
 
@@ -301,7 +300,7 @@ module _ (waits : laws.Waits) (tells : ReadyTells) (shares : SharesAreSent) (tot
     -- ---- and so is a total to which all contributed
 
     module _ (Q : Type 0) (rd : ReductionId) (x : Reduction) (k : ℕ) (is : reduction_of p rd.0 ≡ Some x)
-      (given : (f : ℕ) (other : Progress) → There f other → (place_of p f).array ≡ x.owner → HasContributed p rd.0 k other ⊎ Q) where
+        (given : (f : ℕ) (other : Progress) → There f other → (place_of p f).array ≡ x.owner → HasContributed p rd.0 k other ⊎ Q) where
       abbrev L : List ℕ
       L = nodes_with p place x.owner (node_count place)
 

@@ -98,8 +98,8 @@ module _ (s : Setting) where
         by : (o : Option SlotState) → slot_at s.nodes b.slots slot ≡ o → Arrives s log (with_posts w (put_by s.nodes slot letter b o)) (boxes.Slot slot) letter
         by None is = λ z there. absurd (let q : None ≡ Some z = sym is ∙ there in cc)
         by (Some y) is = λ z there.
-          let same = set_same b.slots (number_of s.nodes slot) (slot_put letter y) z (slot_is s.nodes (with_slot s.nodes b.slots slot (slot_put letter y)) slot z there).there in
-          subst (Kept log letter) (sym same) (inl (in_right letter y.box (letter ∷ []) (inl refl)))
+            let same = set_same b.slots (number_of s.nodes slot) (slot_put letter y) z (slot_is s.nodes (with_slot s.nodes b.slots slot (slot_put letter y)) slot z there).there in
+            subst (Kept log letter) (sym same) (inl (in_right letter y.box (letter ∷ []) (inl refl)))
 
     post_arrives : (out : List Sent) (b : Posts) → AllByRecursion (Arrived s log (with_posts w (posted s.nodes out b))) out
     post_arrives [] b = tt
@@ -141,8 +141,8 @@ module _ (s : Setting) where
   -- ---- an event of a slot
 
   module _ (slot : SlotId) (x : SlotState) (o : Outcome) (box : List Letter) (w : WorldState) (is : slot_at s.nodes w.posts.slots slot ≡ Some x) (moves : Moves s.plan s.place s.plan.iterations x.node o)
-    (wakes : WakesOn s o) (afloat : Afloat s w) (last : AllLast s box)
-    (kept : (letter : Letter) → Kept afloat.log letter x → Kept (afloat.log ++ o.out) letter (renewed s.plan o.node box)) where
+      (wakes : WakesOn s o) (afloat : Afloat s w) (last : AllLast s box)
+      (kept : (letter : Letter) → Kept afloat.log letter x → Kept (afloat.log ++ o.out) letter (renewed s.plan o.node box)) where
     abbrev log : List Sent
     log = afloat.log
 
@@ -309,8 +309,8 @@ module _ (s : Setting) where
     next_told (letters.Total stamp r m value) told = tt
     next_told (letters.Piece stamp its) told = tt
     next_told (letters.VerdictOf one two j m its q) told = λ on within ha hb.
-      let same : length (slice_set c.verdicts node (Some verdict)) ≡ length c.verdicts = length-set c.verdicts node (Some verdict) in
-      set_keeps c.verdicts node j verdict (told going (omega (arith, within, same)) ha hb)
+        let same : length (slice_set c.verdicts node (Some verdict)) ≡ length c.verdicts = length-set c.verdicts node (Some verdict) in
+        set_keeps c.verdicts node j verdict (told going (omega (arith, within, same)) ha hb)
     next_told (letters.Lend m fresh) told = tt
     next_told (letters.Take stamp m live its) told = tt
     next_told (letters.Restore stamp m live) told = tt
@@ -387,10 +387,10 @@ module _ (s : Setting) where
         where
           refused : IsLast s (letters.VerdictOf first second node k verdict piece) → Told (letters.VerdictOf first second node k verdict piece) c
           refused last = λ going within one two.
-            let open_run : a ≡ true = ap (λ o. is_none o) going in
-            let few : f ≡ true = grind (arith, nat_tests, within) in
-            let all : (a && b && d && e && f) ≡ true = both_are (a && b && d && e) f (both_are (a && b && d) e (both_are (a && b) d (both_are a b open_run one) two) (eq-eqb k s.plan.iterations last.at)) few in
-            absurd (let q : true ≡ false = sym all ∙ is in cc)
+              let open_run : a ≡ true = ap (λ o. is_none o) going in
+              let few : f ≡ true = grind (arith, nat_tests, within) in
+              let all : (a && b && d && e && f) ≡ true = both_are (a && b && d && e) f (both_are (a && b && d) e (both_are (a && b) d (both_are a b open_run one) two) (eq-eqb k s.plan.iterations last.at)) few in
+              absurd (let q : true ≡ false = sym all ∙ is in cc)
 
   told_tells : (letter : Letter) (c : ConductorState) → TellsOn letter c (conductor_heard s.plan s.place s.nodes letter c)
   unfolding conductor_heard

@@ -68,9 +68,11 @@ module _ (s : Setting) where
       ≤ posts_left b + (node_left s.plan s.place o.node + out_left o.out + sum (letter_left s) box)
   after_left slot x o box b is =
       let at = (slot_is s.nodes b.slots slot x is).there in
-      omega
-      (arith, sum_set (slot_left s) b.slots (number_of s.nodes slot) x (renewed s.plan o.node box) at,
-      post_left o.out (record { slots = with_slot s.nodes b.slots slot (renewed s.plan o.node box); desk = b.desk }))
+      omega (
+        arith,
+        sum_set (slot_left s) b.slots (number_of s.nodes slot) x (renewed s.plan o.node box) at,
+        post_left o.out (record { slots = with_slot s.nodes b.slots slot (renewed s.plan o.node box); desk = b.desk }),
+      )
 
   -- ---- the conductor
 

@@ -66,24 +66,20 @@ module _ (p : Plan) where
       omega (arith, few, same_entries a p.entries, same_reductions a p.reductions)
 
   ports_few : (a : ℕ) → entries_of a p.entries + reductions_of a p.reductions ≤ 16
-  ports_few a = by (entries_of a p.entries) (reductions_of a p.reductions) refl refl
+  ports_few a =
+      let outer = and_parts _ _ (members_held p) in
+      let inner = and_parts _ _ outer.0 in
+      by (entries_of a p.entries) (reductions_of a p.reductions) refl refl inner.1 outer.1
     where
-      counts = and_parts _ _ (members_held p)
-
-      of_reductions : IsTrue (list_all (λ (r : Reduction). ports_fit p.entries p.reductions r.owner) p.reductions)
-      of_reductions = (and_parts _ _ (members_held p)).1
-
-      of_entries : IsTrue (list_all (λ (e : Entry). ports_fit p.entries p.reductions e.owner) p.entries)
-      of_entries = (and_parts _ _ (and_parts _ _ (members_held p)).0).1
-
-      by : (m n : ℕ) → entries_of a p.entries ≡ m → reductions_of a p.reductions ≡ n → entries_of a p.entries + reductions_of a p.reductions ≤ 16
-      by (suc m) n hm hn =
+      by : (m n : ℕ) → entries_of a p.entries ≡ m → reductions_of a p.reductions ≡ n → IsTrue (list_all (λ (e : Entry). ports_fit p.entries p.reductions e.owner) p.entries) →
+          IsTrue (list_all (λ (r : Reduction). ports_fit p.entries p.reductions r.owner) p.reductions) → entries_of a p.entries + reductions_of a p.reductions ≤ 16
+      by (suc m) n hm hn of_entries of_reductions =
           let o = own_entry a p.entries (omega (arith, hm)) in
           fits_few a (subst (λ k. IsTrue (ports_fit p.entries p.reductions k)) o.3 (each_at (λ (e : Entry). ports_fit p.entries p.reductions e.owner) p.entries o.0 o.1 of_entries o.2))
-      by zero (suc n) hm hn =
+      by zero (suc n) hm hn of_entries of_reductions =
           let o = own_reduction a p.reductions (omega (arith, hn)) in
           fits_few a (subst (λ k. IsTrue (ports_fit p.entries p.reductions k)) o.3 (each_at (λ (r : Reduction). ports_fit p.entries p.reductions r.owner) p.reductions o.0 o.1 of_reductions o.2))
-      by zero zero hm hn = omega (arith, hm, hn)
+      by zero zero hm hn of_entries of_reductions = omega (arith, hm, hn)
 
   -- ---- all reductions
 
@@ -91,7 +87,7 @@ module _ (p : Plan) where
   all_counted m [] each = omega arith
   all_counted m (x ∷ more) each =
       let one = below_at (λ a. cond (x.owner == a) 1 0) m x.owner (each 0 x refl) in
-      let here : cond (x.owner == x.owner) 1 0 ≡ 1 = ap (λ b. cond b 1 0) (eq-eqb x.owner x.owner refl) in
+      let here : cond {A = ℕ} (x.owner == x.owner) 1 0 ≡ 1 = ap (λ b. cond b 1 0) (eq-eqb x.owner x.owner refl) in
       let add = below_add (λ a. cond (x.owner == a) 1 0) (λ a. reductions_of a more) m in
       omega (arith, one, here, add, all_counted m more (λ i y h. each (suc i) y h))
 

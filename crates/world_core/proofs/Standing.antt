@@ -111,15 +111,14 @@ module _ (p : Plan) (o : Progress) (port : Port) (w : Waits p o port) (unheld : 
 -- is inside an iteration of the limit or more, each message that was sent is held or was taken, and so is each total
 -- to which all contributed.
 module _ (law : laws.Waits) (tells : ReadyTells) (p : Plan) (limit : ℕ) (within : limit ≤ p.iterations) (There : ℕ → Progress → Type 0)
-  (each : (e : ℕ) → e < elements p → (o : Progress) × There e o)
-  (is_its : (e : ℕ) (o : Progress) → There e o → o.element.0 ≡ e)
-  (fit : (e : ℕ) (o : Progress) → There e o → Fits p o)
-  (underway : (e : ℕ) (o : Progress) (t : ℕ) → There e o → o.step ≡ Some t → o.done < limit)
-  (rests : (e : ℕ) (o : Progress) → There e o → can_run p limit o ≡ false)
-  (got_parcel : (x : EntryId) (f s q e k : ℕ) (sender o : Progress) → Sends p x.0 f s q e → There f sender → There e o → Past k s q sender → Got p k (ports.Entry x) o)
-  (got_total : (Q : Type 0) (r : ReductionId) (x : Reduction) (k e : ℕ) (o : Progress) → reduction_of p r.0 ≡ Some x → There e o → (place_of p e).array ≡ x.owner →
+    (each : (e : ℕ) → e < elements p → (o : Progress) × There e o)
+    (is_its : (e : ℕ) (o : Progress) → There e o → o.element.0 ≡ e)
+    (fit : (e : ℕ) (o : Progress) → There e o → Fits p o)
+    (underway : (e : ℕ) (o : Progress) (t : ℕ) → There e o → o.step ≡ Some t → o.done < limit)
+    (rests : (e : ℕ) (o : Progress) → There e o → can_run p limit o ≡ false)
+    (got_parcel : (x : EntryId) (f s q e k : ℕ) (sender o : Progress) → Sends p x.0 f s q e → There f sender → There e o → Past k s q sender → Got p k (ports.Entry x) o)
+    (got_total : (Q : Type 0) (r : ReductionId) (x : Reduction) (k e : ℕ) (o : Progress) → reduction_of p r.0 ≡ Some x → There e o → (place_of p e).array ≡ x.owner →
     ((f : ℕ) (other : Progress) → There f other → (place_of p f).array ≡ x.owner → HasContributed p r.0 k other ⊎ Q) → Got p k (ports.Total r) o ⊎ Q) where
-
   -- one that is farther back
   record Behind (o : Progress) (t : ℕ) : Type 0 where
     e : ℕ

@@ -56,13 +56,13 @@ below_inside f low m n each within = go n m (omega arith) within
     go : (n k : ℕ) → k ≤ m → low + k ≤ n → k ≤ below f n
     go n zero few fits = omega arith
     go zero (suc k) few fits = absurd (omega (arith, fits))
-    go (suc n) (suc k) few fits = by (nat_lt (low + k) n) refl
+    go (suc n) (suc k) few fits = by (nat_lt (low + k) n) refl (go n (suc k) few) (go n k (omega (arith, few)))
       where
-        by : (b : Bool) → nat_lt (low + k) n ≡ b → suc k ≤ below f n + f n
-        by true is = let less = ltb-true (low + k) n is in omega (arith, go n (suc k) few (omega (arith, less)))
-        by false is =
+        by : (b : Bool) → nat_lt (low + k) n ≡ b → (low + suc k ≤ n → suc k ≤ below f n) → (low + k ≤ n → k ≤ below f n) → suc k ≤ below f n + f n
+        by true is more less = let high = ltb-true (low + k) n is in omega (arith, more (omega (arith, high)))
+        by false is more less =
             let at : low + k ≡ n = grind (arith, nat_tests, is, fits) in
-            omega (arith, go n k (omega (arith, few)) (omega (arith, at)), each n (omega (arith, at)) (omega (arith, at, few)))
+            omega (arith, less (omega (arith, at)), each n (omega (arith, at)) (omega (arith, at, few)))
 
 pub below_outside : (f : ℕ → ℕ) (low m n : ℕ) → ((i : ℕ) → i < n → f i ≤ 1) → ((i : ℕ) → i < n → 1 ≤ f i → (low ≤ i) × (i < low + m)) → below f n ≤ m
 below_outside f low m n ones each = let r = go n (omega arith) in r.0
