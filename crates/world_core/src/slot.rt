@@ -130,9 +130,7 @@ impl Slot {
         ensures { IfOk result (λ out. record { slot = self.new; out = out } ≡ acted plan.now (outcome_of (node_ran plan.now (faults_of script.now) (M.place map.now) plan.now.iterations e.0 self.old.node)) self.old.box) }
     {
         nodes_keep();
-        let turn = self
-            .node
-            .run_element(alloc, plan, script, map, e, plan.iterations())?;
+        let turn = self.node.run_element(alloc, plan, script, map, e, plan.iterations())?;
         self.doing = doing_of(plan, &self.node, &self.inbox);
         Ok(sent_by(alloc, turn))
     }
