@@ -1,12 +1,8 @@
 -- What is left at the start is within the bound on turns.
-use Rattle.std.proofs.Common.{◌≡◌, ℕ, zero, suc, ◌+◌, ◌-◌, ◌*◌, ◌<◌, ◌≤◌, inl, inr, Bool, true, false, cond, List, [], ◌∷◌, ◌++◌, length, refl, ap, sym, ◌∙◌, arith, subst, Option, Some, None}
-use Rattle.std.specs.Prelude.{◌==◌, ◌^◌, IsTrue, slice_get}
-use Rattle.std.specs.List.{AllByRecursion, list_all}
-use Rattle.std.specs.Option.{option_map_or}
-use Rattle.std.proofs.lemmas.Bool.{and_parts, eq-eqb, eqb-true, leb-true, ltb-true}
-use Rattle.std.proofs.lemmas.Option.{same_Some, slice_get_within}
-use Rattle.std.proofs.Math.Nat.{add-mul, mul-le-mul, mul-le-mul_left, mul-le-mul_right}
-use Rattle.chare_base.specs.declared.plan.Array.{Array}
+use Rattle.std.proofs.Common.{◌≡◌, ℕ, zero, suc, ◌+◌, ◌-◌, ◌*◌, ◌<◌, ◌≤◌, Bool, true, false, cond, List, [], ◌∷◌, length, refl, ap, sym, ◌∙◌, arith, subst, Option, Some, None}
+use Rattle.std.specs.Prelude.{◌==◌, slice_get}
+use Rattle.std.proofs.lemmas.Bool.{eq-eqb, eqb-true}
+use Rattle.std.proofs.Math.Nat.{add-mul, mul-le-mul_left, mul-le-mul_right}
 use Rattle.chare_base.specs.declared.plan.Entry.{Entry}
 use Rattle.chare_base.specs.declared.plan.Place.{Place}
 use Rattle.chare_base.specs.declared.plan.Plan.{Plan}
@@ -15,13 +11,13 @@ use Rattle.chare_base.specs.declared.slots.LineSet.{LineSet}
 use Rattle.chare_base.specs.declared.slots.SlotId.{SlotId}
 use Rattle.chare_base.specs.Elements.{elements, place_of, steps_of}
 use Rattle.chare_base.specs.Entries.{cols_of, entry_of, first_of, reduction_of, rows_of}
-use Rattle.chare_base.specs.Placing.{members, members_from}
+use Rattle.chare_base.specs.Placing.{members}
 use Rattle.chare_base.proofs.Exchanges.{pair}
 use Rattle.chare_base.proofs.Neighbours.{element_is, place_is, place_within, size_at}
 use Rattle.letter_post.specs.Truth.{in_array}
 use Rattle.node_core.specs.Costs.{StartLeaves, contribution_cost, is_first, node_left, round_cost, share_weight, sharers, sharers_in, sum, times}
 use Rattle.node_core.specs.Nodes.{node_at}
-use Rattle.node_core.specs.Rosters.{node_count, nodes_with}
+use Rattle.node_core.specs.Rosters.{node_count}
 use Rattle.node_core.specs.Starts.{start_state}
 use Rattle.node_core.proofs.Lists.{all_by}
 use Rattle.node_core.proofs.Lowering.{member_lives}
@@ -29,13 +25,13 @@ use Rattle.node_core.proofs.Seats.{count_covered, few_with}
 use Rattle.node_core.proofs.Sums.{sum_append}
 use Rattle.conductor_core.specs.Conductors.{start_conductor}
 use Rattle.conductor_core.specs.Openings.{all_lines}
-use Rattle.world_core.specs.Bounds.{entries_of, parts_below, reductions_of, turns_bound, width_below, width_of}
+use Rattle.world_core.specs.Bounds.{entries_of, parts_below, turns_bound, width_below, width_of}
 use Rattle.world_core.specs.Sound.{IsPlaced}
 use Rattle.world_core.specs.Still.{StartIsWithin, slot_left, world_left}
 use Rattle.world_core.specs.Worlds.{Setting, opening_slots, opening_world}
 use Rattle.world_core.proofs.Framing.{opening_slot}
 use Rattle.world_core.proofs.Rounds.{entry_own, round_few, total_own}
-use Rattle.world_core.proofs.Summing.{below, below_add, below_all, below_first, below_inside, below_le, below_none, below_outside, below_same, below_swap, first_below, first_once, over, over_below, sum_add, sum_below, sum_le, sum_times, times_add, times_is}
+use Rattle.world_core.proofs.Summing.{below, below_add, below_all, below_first, below_inside, below_le, below_outside, below_same, below_swap, first_below, first_once, over, over_below, sum_add, sum_below, sum_le, sum_times, times_add, times_is, times_none}
 
 -- ---- how many elements an array has
 
@@ -123,8 +119,6 @@ module _ (p : Plan) (place : List ℕ) (nodes : ℕ) (count : node_count place �
       by : (o : Option Reduction) → sum (λ e. total_own p place e r o) (members place j) ≤ share_weight p place r j
       by None = let z = none (members place j) in omega (arith, z)
       by (Some x) =
-          let H : List ℕ = in_array p x.owner (members place j) in
-          let w : ℕ = share_weight p place r j in
           let a = sum_le (λ e. total_own p place e r (Some x)) (λ e. cond (is_first e (in_array p x.owner (members place j))) (share_weight p place r j) 0) (members place j)
           (all_by (λ e. total_own p place e r (Some x) ≤ cond (is_first e (in_array p x.owner (members place j))) (share_weight p place r j) 0) (members place j)
           (λ m e there. one e (member_lives place j m e there))) in
@@ -151,7 +145,6 @@ module _ (p : Plan) (place : List ℕ) (nodes : ℕ) (count : node_count place �
 
   shares_few : (r : ℕ) → below (share_weight p place r) nodes ≤ nodes + nodes
   shares_few r =
-      let S : List ℕ = sharers p place r in
       let a = below_add (λ j. 1) (λ j. cond (is_first j (sharers p place r)) (length (sharers p place r)) 0) nodes in
       let b = below_same (share_weight p place r) (λ j. 1 + cond (is_first j (sharers p place r)) (length (sharers p place r)) 0) nodes (λ j h. omega arith) in
       let c = below_all 1 nodes in
@@ -231,7 +224,7 @@ module _ (s : Setting) (placed : IsPlaced s) where
   -- ---- the start
 
   slots_left : StartLeaves → (r m : ℕ) → sum (slot_left s) (opening_slots s r m) ≡ times p.iterations (over (round_cost s.plan s.place) 0 s.place m) + 3 * m
-  slots_left leaves r zero = let none = Rattle.world_core.proofs.Summing.times_none p.iterations in omega (arith, none)
+  slots_left leaves r zero = let none = times_none p.iterations in omega (arith, none)
   slots_left leaves r (suc m) =
       let slot : SlotId = record { replica = r; node = m } in
       let live : LineSet = record { 0 = all_lines s.script } in

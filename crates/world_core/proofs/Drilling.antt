@@ -1,6 +1,6 @@
 -- A drill without faults comes to its end.
-use Rattle.std.proofs.Common.{◌≡◌, ℕ, ◌-◌, ◌≤◌, [], refl, ap, sym, ◌∙◌, arith, subst, IsSome}
-use Rattle.std.specs.Prelude.{◌^◌, min}
+use Rattle.std.proofs.Common.{◌≡◌, ℕ, ◌-◌, ◌≤◌, [], refl, arith}
+use Rattle.std.specs.Prelude.{◌^◌}
 use Rattle.std.proofs.Math.Nat.{min-eq_left}
 use Rattle.chare_base.specs.declared.options.Options.{Options}
 use Rattle.chare_base.specs.declared.plan.Plan.{Plan}

@@ -1,11 +1,10 @@
 -- A world in which nothing is lost stands still only at its end.
-use Rattle.std.proofs.Common.{◌≡◌, ℕ, zero, suc, ◌+◌, ◌*◌, ◌<◌, ◌≤◌, inl, inr, Bool, true, false, cond, List, [], ◌∷◌, ◌++◌, length, map, refl, ap, sym, ◌∙◌, arith, subst, Option, Some, None, IsSome}
+use Rattle.std.proofs.Common.{◌≡◌, ℕ, zero, suc, ◌+◌, ◌*◌, ◌<◌, inl, inr, Bool, true, false, cond, List, [], ◌∷◌, length, refl, ap, sym, ◌∙◌, arith, subst, Option, Some, None, IsSome}
 use Rattle.std.specs.Prelude.{◌⊎◌, ◌==◌, ◌&&◌, IfSome, is_none, is_some, not, slice_get, slice_index_or}
 use Rattle.std.specs.List.{AllByRecursion, list_all}
 use Rattle.std.proofs.lemmas.Bool.{eq-eqb, eqb-true}
 use Rattle.std.proofs.lemmas.Option.{same_Some}
 use Rattle.chare_base.specs.declared.message.EntryId.{EntryId}
-use Rattle.chare_base.specs.declared.message.Payload.{Payload}
 use Rattle.chare_base.specs.declared.message.Port.TheVariants as ports
 use Rattle.chare_base.specs.declared.message.ReductionId.{ReductionId}
 use Rattle.chare_base.specs.declared.plan.ElementId.{ElementId}
@@ -16,8 +15,7 @@ use Rattle.chare_base.specs.Elements.{elements, place_of}
 use Rattle.chare_base.specs.Entries.{id_of, reduction_of}
 use Rattle.chare_base.specs.Laws as laws
 use Rattle.chare_base.specs.Placing.{members, members_from}
-use Rattle.chare_base.proofs.Facts.{elements_some, place_in_range}
-use Rattle.fault_script.specs.declared.fault.Fault.{Fault}
+use Rattle.chare_base.proofs.Facts.{place_in_range}
 use Rattle.pup_state.specs.declared.compare.Verdict.{Verdict}
 use Rattle.pup_state.specs.declared.compare.Verdict.TheVariants as verdicts
 use Rattle.pup_state.specs.declared.piece.Piece.{Piece}
@@ -34,27 +32,28 @@ use Rattle.object_steps.specs.Turns.{ReadyTells}
 use Rattle.node_core.specs.declared.piece.Held.{Held}
 use Rattle.node_core.specs.Keeps.{Alive, IsPieceOf, Keeps, element_of}
 use Rattle.node_core.specs.Mail.{BodyDid, BodyOwes, Did, Got, HasContributed, HeldSince, In, IsSomeAs, Owes, Paid, ParcelWasSent, PartialWasSent, Past, Sends, ShareCame, SharesAreSent, TotalWasSent, TotalsAreSent, TotalsWereSent, reduction_id}
-use Rattle.node_core.specs.Nodes.{Body, NodeState, all_at, all_at_of, awake, first_running, first_running_of, has_packed, node_at, rests, rests_by, to_slot, verdict_sent}
+use Rattle.node_core.specs.Nodes.{Body, NodeState, all_at, all_at_of, awake, first_running, first_running_of, has_packed, node_at, rests_by, to_slot, verdict_sent, has_packed_by, all_at_by}
 use Rattle.node_core.specs.Rosters.{node_count, nodes_with, number_in, roster_of, sharers_of}
 use Rattle.node_core.specs.Starts.{opening_stamp}
 use Rattle.node_core.specs.Turns.{can_run, is_at}
-use Rattle.node_core.proofs.Lists.{got_at}
+use Rattle.node_core.proofs.Lists.{got_at, all_to}
 use Rattle.node_core.proofs.Lowering.{member_lives}
 use Rattle.node_core.proofs.Seats.{count_covered}
 use Rattle.node_core.proofs.Sharers.{OfArray, has_sharer, in_number, sharer_has, sharers_known}
 use Rattle.conductor_core.specs.Conductors.{all_equal, is_equal}
-use Rattle.conductor_core.specs.Openings.{all_lines, first_stamp}
-use Rattle.conductor_core.specs.Tells.{EqualLinesAgree, Going, IsKept, verdict_at}
+use Rattle.conductor_core.specs.Openings.{all_lines}
+use Rattle.conductor_core.specs.Tells.{EqualLinesAgree, IsKept, verdict_at}
 use Rattle.world_core.specs.declared.doing.Doing.TheVariants as doings
 use Rattle.world_core.specs.declared.event.Actor.TheVariants as actors
 use Rattle.world_core.specs.declared.event.Event.{Event}
 use Rattle.world_core.specs.declared.event.Event.TheVariants as events
 use Rattle.world_core.specs.Sound.{IsPlaced, SlotSound, Sound}
-use Rattle.world_core.specs.Still.{Afloat, Arrived, Arrives, IsSecond, IsStill, NoStandstill, SlotAfloat, Told}
-use Rattle.world_core.specs.Worlds.{Setting, SlotState, WorldState, desk_event, doing_of, enabled, event_of, move_due, number_of, run_of, slot_at, slot_event}
+use Rattle.world_core.specs.Still.{Afloat, Arrived, Arrives, IsSecond, IsStill, NoStandstill, SlotAfloat}
+use Rattle.world_core.specs.Worlds.{Setting, SlotState, WorldState, desk_event, doing_of, enabled, event_of, move_due, run_of, slot_at, slot_event}
 use Rattle.world_core.proofs.Framing.{SlotThere, both_true, opening_is_first, self_equal, slot_named, slot_there}
 use Rattle.world_core.proofs.Lists.{all_got, get_mapped, get_unmapped, in_all}
 use Rattle.world_core.proofs.Standing.{all_done}
+use Rattle.conductor_core.specs.declared.ending.Outcome.{Outcome}
 
 -- ---- lists
 
@@ -375,7 +374,7 @@ module _ (waits : laws.Waits) (tells : ReadyTells) (shares : SharesAreSent) (tot
           by : AllByRecursion (λ j. PartialWasSent (stamp_at r) rd.0 k j log) L ⊎ Q → Got p k (ports.Total rd) o ⊎ Q
           by (inr q) = inr q
           by (inl all) =
-              let each_came : AllByRecursion (ShareCame p rd.0 k log a.x.node) L = Rattle.node_core.proofs.Lists.all_to (λ j. PartialWasSent (stamp_at r) rd.0 k j log) (ShareCame p rd.0 k log a.x.node) L came all in
+              let each_came : AllByRecursion (ShareCame p rd.0 k log a.x.node) L = all_to (λ j. PartialWasSent (stamp_at r) rd.0 k j log) (ShareCame p rd.0 k log a.x.node) L came all in
               let were : TotalsWereSent a.x.node.last.stamp rd.0 k (sharers_of a.x.node.roster x.owner) log =
               totals p s.script place rd.0 k number.0 t.node log a.x.node a.b x a.keeps a.alive is (ap (λ l. number_in 0 l t.node) known ∙ number.1)
               (subst (AllByRecursion (ShareCame p rd.0 k log a.x.node)) (sym known) each_came) in
@@ -403,7 +402,7 @@ module _ (waits : laws.Waits) (tells : ReadyTells) (shares : SharesAreSent) (tot
         all_there = tests_all (is_at K) a.b.objects at_end
 
         due : (not a.b.waits && all_at_of K a.b.objects && not (is_some a.b.fresh)) ≡ false
-        due = ap (λ o. not (rests_by o) && Rattle.node_core.specs.Nodes.all_at_by K o && not (Rattle.node_core.specs.Nodes.has_packed_by o)) (sym a.alive) ∙ a.quiet.move
+        due = ap (λ o. not (rests_by o) && all_at_by K o && not (has_packed_by o)) (sym a.alive) ∙ a.quiet.move
 
         by : (c : Bool) → is_some a.b.fresh ≡ c → is_some a.b.fresh ≡ true
         by true is = is
@@ -514,6 +513,6 @@ module _ (waits : laws.Waits) (tells : ReadyTells) (shares : SharesAreSent) (tot
 pub no_standstill : laws.Waits → ReadyTells → SharesAreSent → TotalsAreSent → EqualLinesAgree → NoStandstill
 no_standstill waits tells shares totals agree s w none placed sound afloat still = by w.conductor.outcome refl
   where
-    by : (o : Option Rattle.conductor_core.specs.declared.ending.Outcome.Outcome) → w.conductor.outcome ≡ o → IsSome w.conductor.outcome
+    by : (o : Option Outcome) → w.conductor.outcome ≡ o → IsSome w.conductor.outcome
     by (Some x) is = ap is_some is
     by None is = absurd (never waits tells shares totals agree s w none placed sound afloat still is)

@@ -1,8 +1,8 @@
 -- No event loses what was sent.
 use Rattle.std.proofs.Common.{◌≡◌, ℕ, zero, suc, ◌<◌, inl, inr, Bool, true, false, cond, List, [], ◌∷◌, ◌++◌, length, map, refl, ap, sym, ◌∙◌, arith, subst, Option, Some, None, IsSome}
-use Rattle.std.specs.Prelude.{◌⊎◌, ◌==◌, ◌&&◌, IfSome, is_none, is_some, nat_lt, slice_get, slice_index_or, slice_set}
-use Rattle.std.specs.List.{AllByRecursion, list_all}
-use Rattle.std.proofs.lemmas.Bool.{eq-eqb, eqb-true, ltb-true}
+use Rattle.std.specs.Prelude.{◌⊎◌, ◌==◌, ◌&&◌, is_none, nat_lt, slice_index_or, slice_set}
+use Rattle.std.specs.List.{AllByRecursion}
+use Rattle.std.proofs.lemmas.Bool.{eq-eqb, ltb-true}
 use Rattle.std.proofs.lemmas.Bool.Decides.{nat_tests}
 use Rattle.std.proofs.lemmas.List.{length-set}
 use Rattle.chare_base.specs.declared.plan.ElementId.{ElementId}
@@ -12,30 +12,27 @@ use Rattle.letter_post.specs.declared.letter.BoxId.TheVariants as boxes
 use Rattle.letter_post.specs.declared.letter.Letter.{Letter}
 use Rattle.letter_post.specs.declared.letter.Letter.TheVariants as letters
 use Rattle.letter_post.specs.declared.letter.Sent.{Sent}
-use Rattle.letter_post.specs.declared.order.LastOrder.{LastOrder}
 use Rattle.letter_post.specs.declared.stamp.Stamp.{Stamp}
 use Rattle.letter_post.specs.Stamps.{same_stamp}
 use Rattle.pup_state.specs.declared.compare.Verdict.{Verdict}
 use Rattle.pup_state.specs.declared.piece.Piece.{Piece}
-use Rattle.node_core.specs.Mail.{Did, HearsMove, In, IsAt, Moves, Owes, PacksMove, RunsMove, SentIsAt}
-use Rattle.node_core.specs.Nodes.{NodeState, Outcome, node_heard, node_packed, node_ran, outcome_of}
+use Rattle.node_core.specs.Mail.{Did, HearsMove, In, Moves, Owes, PacksMove, RunsMove, SentIsAt}
+use Rattle.node_core.specs.Nodes.{Outcome, node_heard, node_packed, node_ran, outcome_of}
 use Rattle.node_core.proofs.Lists.{map_set}
 use Rattle.node_core.proofs.Logs.{did_more, owes_more}
 use Rattle.node_core.proofs.Within.{in_left, in_right}
-use Rattle.conductor_core.specs.Conductors.{ConductorState, Heard, all_equal, conductor_heard, counts, ended_with, settled, silent, stops, stops_to, verdict_heard, with_verdict}
-use Rattle.conductor_core.specs.Conductors as conductors
+use Rattle.conductor_core.specs.declared.ending.Outcome as endings
+use Rattle.conductor_core.specs.Conductors.{ConductorState, Heard, all_equal, conductor_heard, counts, ended_with, settled, silent, stops_to, verdict_heard, with_verdict}
 use Rattle.checkpoint_store.specs.Assembled.{assembled}
-use Rattle.conductor_core.specs.Openings.{first_stamp}
-use Rattle.conductor_core.specs.Tells.{verdict_at}
-use Rattle.world_core.specs.declared.event.Event.{Event}
 use Rattle.world_core.specs.declared.event.Event.TheVariants as events
-use Rattle.world_core.specs.Sound.{IsPlaced, SlotSound, Sound}
-use Rattle.world_core.specs.Still.{Afloat, AllLast, Arrived, Arrives, Awake, EveryEventKeepsAfloat, FromSecond, IsLast, SlotAfloat, Told, frame_of}
-use Rattle.world_core.specs.Worlds.{Posts, Setting, SlotState, WorldState, after_conductor, after_node, happens, heard_by, heard_in, move_due, moved_by, number_of, opening_world, posted, put_by, put_in, ran_by, renewed, slot_at, slot_put, told_by, with_slot}
-use Rattle.world_core.proofs.Framing.{Framed, framed, second_stamp, slot_after, slot_named}
+use Rattle.world_core.specs.Sound.{SlotSound, Sound, AllTrue}
+use Rattle.world_core.specs.Still.{Afloat, AllLast, Arrived, Arrives, EveryEventKeepsAfloat, FromSecond, IsLast, SlotAfloat, Told, frame_of}
+use Rattle.world_core.specs.Worlds.{Posts, Setting, SlotState, WorldState, after_node, happens, heard_by, heard_in, move_due, moved_by, number_of, opening_world, posted, put_by, put_in, ran_by, renewed, slot_at, slot_put, told_by, with_slot}
+use Rattle.world_core.proofs.Framing.{Framed, framed, second_stamp, slot_after}
 use Rattle.world_core.proofs.Lists.{all_behind, all_got, all_joined, all_pairs, all_set, all_to, set_same}
 use Rattle.world_core.proofs.Steady.{Is, slot_is}
 use Rattle.world_core.proofs.Waking.{WakesOn, heard_wakes, packed_wakes, ran_wakes}
+use Rattle.conductor_core.specs.declared.ending.Outcome.TheVariants.{Done}
 
 module _ (s : Setting) where
   -- a letter lies in a slot's inbox, or is done
@@ -247,7 +244,7 @@ module _ (s : Setting) where
         let its = sound_at slot x is in
         let last : AllLast s (letter ∷ more) = subst (AllLast s) first old.last in
         let o : Outcome = node_heard s.plan s.script s.place letter x.node in
-        let h = hears s.plan s.script s.place letter s.plan.iterations x.node its.keeps (subst (Rattle.world_core.specs.Sound.AllTrue s (boxes.Slot x.node.slot)) first its.letters).0 last.0.at in
+        let h = hears s.plan s.script s.place letter s.plan.iterations x.node its.keeps (subst (AllTrue s (boxes.Slot x.node.slot)) first its.letters).0 last.0.at in
         node_afloat slot x o more w is h.moves (heard_wakes s letter x.node last.0.second old.awake) afloat last.1 (heard_kept x o afloat.log letter more first h.moves old.owes (h.done afloat.log))
 
     hears_afloat : (slot : SlotId) (o : Option SlotState) → slot_at s.nodes w.posts.slots slot ≡ o → Afloat s (heard_by s slot w o)
@@ -281,7 +278,7 @@ module _ (s : Setting) where
   stops_last r (suc n) = all_behind SentLast (stops_to r n) (record { to = boxes.Slot (record { replica = r; node = n }); letter = letters.Stop }) (stops_last r n) (record { at = tt; second = tt })
 
   -- Nothing is asked of a conductor that has ended.
-  over_told : (c : ConductorState) (o : Rattle.conductor_core.specs.declared.ending.Outcome.Outcome) → c.outcome ≡ Some o → (l : Letter) → Told l c
+  over_told : (c : ConductorState) (o : endings.Outcome) → c.outcome ≡ Some o → (l : Letter) → Told l c
   over_told c o is (letters.Parcel stamp entry k to payload) = tt
   over_told c o is (letters.Partial stamp r k node value) = tt
   over_told c o is (letters.Total stamp r k value) = tt
@@ -328,7 +325,7 @@ module _ (s : Setting) where
             record {
               told = λ l told. over_told ended _ refl l;
               own = λ last. over_told ended _ refl (letters.VerdictOf first second node k verdict piece);
-              awaits = λ before on. absurd (let q : Some Rattle.conductor_core.specs.declared.ending.Outcome.TheVariants.Done ≡ None = on in cc);
+              awaits = λ before on. absurd (let q : Some Done ≡ None = on in cc);
               first = refl;
               second = refl;
               sends = all_joined SentLast (stops_to 0 s.nodes) (stops_to 1 s.nodes) (stops_last 0 s.nodes) (stops_last 1 s.nodes);

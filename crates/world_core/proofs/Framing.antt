@@ -1,19 +1,15 @@
 -- Slots by their names, and what stays of them.
-use Rattle.std.proofs.Common.{◌≡◌, ℕ, zero, suc, ◌+◌, ◌*◌, ◌<◌, ◌≤◌, inl, inr, Bool, true, false, cond, List, [], ◌∷◌, ◌++◌, length, map, refl, ap, sym, ◌∙◌, arith, subst, Option, Some, None}
-use Rattle.std.specs.Prelude.{◌⊎◌, ◌==◌, ◌&&◌, slice_get, slice_set}
+use Rattle.std.proofs.Common.{◌≡◌, ℕ, zero, suc, ◌+◌, ◌*◌, ◌<◌, ◌≤◌, inl, inr, Bool, true, false, cond, List, [], ◌∷◌, ◌++◌, length, map, refl, ap, sym, ◌∙◌, arith, subst, Some, None}
+use Rattle.std.specs.Prelude.{◌⊎◌, ◌==◌, ◌&&◌, slice_get}
 use Rattle.std.specs.List.{AllByRecursion}
 use Rattle.std.proofs.lemmas.Bool.{eq-eqb, eqb-true}
 use Rattle.std.proofs.lemmas.Bool.Decides.{nat_tests}
 use Rattle.std.proofs.lemmas.List.{length-append}
-use Rattle.chare_base.specs.declared.slots.LineSet.{LineSet}
 use Rattle.chare_base.specs.declared.slots.SlotId.{SlotId}
-use Rattle.fault_script.specs.declared.fault.Fault.{Fault}
-use Rattle.letter_post.specs.declared.stamp.Stamp.{Stamp}
 use Rattle.letter_post.specs.Stamps.{same_stamp}
-use Rattle.node_core.specs.Nodes.{NodeState}
 use Rattle.node_core.specs.Starts.{opening_stamp, start_state}
 use Rattle.conductor_core.specs.Openings.{all_lines, first_stamp}
-use Rattle.world_core.specs.Still.{Afloat, Frame, IsSecond, frame_of}
+use Rattle.world_core.specs.Still.{Frame, IsSecond, frame_of}
 use Rattle.world_core.specs.Worlds.{Setting, SlotState, WorldState, named, number_of, opening_slots, opening_world, renewed, slot_at, with_slot}
 use Rattle.world_core.proofs.Lists.{all_behind, all_joined, all_mapped, all_unmapped, get_left, get_mapped, get_right, get_unmapped, set_get}
 use Rattle.world_core.proofs.Steady.{Is, slot_is}

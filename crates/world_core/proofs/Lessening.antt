@@ -1,8 +1,7 @@
 -- Each enabled event of a world leaves less to happen, so a schedule comes to its end.
-use Rattle.std.proofs.Common.{◌≡◌, ℕ, zero, suc, ◌+◌, ◌*◌, ◌-◌, ◌<◌, ◌≤◌, inl, inr, Bool, true, false, cond, List, [], ◌∷◌, ◌++◌, length, refl, ap, sym, ◌∙◌, arith, subst, Option, Some, None, IsSome}
+use Rattle.std.proofs.Common.{◌≡◌, ℕ, zero, suc, ◌+◌, ◌-◌, ◌<◌, ◌≤◌, inl, inr, Bool, true, false, cond, List, [], ◌∷◌, length, refl, ap, sym, ◌∙◌, arith, subst, Option, Some, None, IsSome}
 use native.Mathlib.Nat.{mod-lt}
-use Rattle.std.specs.Prelude.{◌⊎◌, ◌==◌, ◌&&◌, ◌/◌, ◌^◌, is_none, is_some, nat_lt, not, slice_get, slice_set}
-use Rattle.std.specs.List.{AllByRecursion}
+use Rattle.std.specs.Prelude.{◌⊎◌, ◌==◌, ◌&&◌, ◌/◌, ◌^◌, is_some, nat_lt, not, slice_get}
 use Rattle.std.proofs.lemmas.Bool.{eqb-true, ltb-true}
 use Rattle.std.proofs.lemmas.Bool.Decides.{nat_tests}
 use Rattle.std.proofs.lemmas.Option.{same_Some}
@@ -14,13 +13,11 @@ use Rattle.letter_post.specs.declared.letter.BoxId.TheVariants as boxes
 use Rattle.letter_post.specs.declared.letter.Letter.{Letter}
 use Rattle.letter_post.specs.declared.letter.Letter.TheVariants as letters
 use Rattle.letter_post.specs.declared.letter.Sent.{Sent}
-use Rattle.letter_post.specs.declared.stamp.Stamp.{Stamp}
-use Rattle.pup_state.specs.declared.compare.Verdict.{Verdict}
 use Rattle.pup_state.specs.declared.piece.Piece.{Piece}
 use Rattle.checkpoint_store.specs.Assembled.{assembled}
-use Rattle.node_core.specs.Costs.{FirstRuns, HearsLower, PacksLower, RunsLower, node_left, outcome_left, sent_weight, sum, weight}
+use Rattle.node_core.specs.Costs.{FirstRuns, HearsLower, PacksLower, RunsLower, node_left, outcome_left, sent_weight, sum}
 use Rattle.node_core.specs.Mail.{In}
-use Rattle.node_core.specs.Nodes.{Body, NodeState, Outcome, all_at, all_at_by, first_running, has_packed, has_packed_by, node_heard, node_packed, node_ran, outcome_of, rests, rests_by}
+use Rattle.node_core.specs.Nodes.{Body, NodeState, Outcome, all_at, all_at_by, first_running, has_packed, has_packed_by, node_heard, node_packed, node_ran, outcome_of, rests}
 use Rattle.node_core.proofs.Lowering.{some_weight}
 use Rattle.node_core.proofs.Sums.{sum_append, sum_set}
 use Rattle.conductor_core.specs.declared.ending.Outcome as endings
@@ -34,7 +31,7 @@ use Rattle.world_core.specs.declared.event.Event.{Event}
 use Rattle.world_core.specs.declared.event.Event.TheVariants as events
 use Rattle.world_core.specs.Sound.{EveryEventKeeps, IsPlaced, SlotSound, Sound, StartIsSound}
 use Rattle.world_core.specs.Still.{Afloat, EveryEventKeepsAfloat, EveryEventLowers, EveryScheduleEnds, IsStill, NoStandstill, StartIsAfloat, frame_of, letter_left, slot_left, world_left}
-use Rattle.world_core.specs.Worlds.{Posts, Setting, SlotState, WorldState, actor_at, actor_event, after_node, chosen_of, desk_event, doing_of, drawn, enabled, event_at, event_of, first_above, first_or, goes_on, happens, heard_by, move_due, moved_by, number_of, opening_world, picked, picked_by, picked_event, posted, put_by, put_in, ran_by, reached, ready_actors, ready_from, renewed, run_of, slot_at, slot_event, slot_put, stirred, told_by, with_slot}
+use Rattle.world_core.specs.Worlds.{Posts, Setting, SlotState, WorldState, actor_at, actor_event, after_node, chosen_of, desk_event, doing_of, drawn, enabled, event_at, event_of, first_above, first_or, goes_on, happens, heard_by, move_due, moved_by, number_of, opening_world, picked, picked_by, picked_event, posted, put_by, put_in, ran_by, reached, ready_actors, ready_from, renewed, run_of, slot_at, slot_event, slot_put, stirred, told_by, with_slot, heard_in}
 use Rattle.world_core.proofs.Framing.{Framed, framed}
 use Rattle.world_core.proofs.Lists.{all_got}
 use Rattle.world_core.proofs.Steady.{Is, slot_is}
@@ -193,7 +190,7 @@ module _ (s : Setting) where
         by_box [] box q = by (move_due s.plan x.node) (first_running s.plan s.plan.iterations x.node) refl refl q
         by_box (letter ∷ more) box q =
             as_event (events.Hear slot) (same_Some (events.Hear slot) event q)
-            (subst (λ o. Lowers (heard_by s slot w o)) (sym is) (subst (λ l. Lowers (Rattle.world_core.specs.Worlds.heard_in s slot w x.node l)) (sym box) (hear_lowers slot x letter more is box)))
+            (subst (λ o. Lowers (heard_by s slot w o)) (sym is) (subst (λ l. Lowers (heard_in s slot w x.node l)) (sym box) (hear_lowers slot x letter more is box)))
 
     desk_lowers : (event : Event) → desk_event w.posts.desk ≡ Some event → Lowers (happens s w event)
     unfolding happens

@@ -1,5 +1,5 @@
 -- The bound on turns of a script without faults has 64 bits.
-use Rattle.std.proofs.Common.{◌≡◌, ℕ, zero, suc, ◌+◌, ◌-◌, ◌*◌, ◌<◌, ◌≤◌, Bool, true, false, cond, List, [], ◌∷◌, length, refl, ap, sym, ◌∙◌, arith, subst, Option, Some, None}
+use Rattle.std.proofs.Common.{◌≡◌, ℕ, zero, suc, ◌+◌, ◌-◌, ◌*◌, ◌<◌, ◌≤◌, Bool, true, false, cond, List, [], ◌∷◌, length, refl, ap, arith, subst, Option, Some, None}
 use Rattle.std.specs.Prelude.{◌==◌, ◌^◌, IsTrue, slice_get}
 use Rattle.std.specs.List.{list_all}
 use Rattle.std.specs.Option.{option_map_or}
@@ -10,10 +10,9 @@ use Rattle.chare_base.specs.declared.plan.Array.{Array}
 use Rattle.chare_base.specs.declared.plan.Entry.{Entry}
 use Rattle.chare_base.specs.declared.plan.Plan.{Plan}
 use Rattle.chare_base.specs.declared.plan.Reduction.{Reduction}
-use Rattle.chare_base.specs.declared.plan.Step.{Step}
-use Rattle.chare_base.specs.Elements.{array_of, elements, parts_at, place_of, steps_of}
+use Rattle.chare_base.specs.Elements.{array_of, elements, place_of, steps_of}
 use Rattle.chare_base.specs.Limits as limits
-use Rattle.chare_base.specs.Limits.{array_fits, entry_fits, ports_fit, reduction_fits}
+use Rattle.chare_base.specs.Limits.{array_fits, ports_fit}
 use Rattle.chare_base.proofs.Exchanges as exchanges
 use Rattle.chare_base.proofs.Facts.{arrays_few, each_at, each_fits, elements_few, fits_of, iterations_few, members_held}
 use Rattle.object_steps.proofs.Kept.{few_parts}

@@ -1,14 +1,12 @@
 -- What an iteration of an element costs, by the ports that it sends to.
-use Rattle.std.proofs.Common.{◌≡◌, ℕ, zero, suc, ◌+◌, ◌*◌, ◌<◌, ◌≤◌, Bool, true, false, cond, List, [], ◌∷◌, length, refl, ap, sym, ◌∙◌, arith, subst, Option, Some, None}
+use Rattle.std.proofs.Common.{◌≡◌, ℕ, zero, suc, ◌+◌, ◌≤◌, Bool, true, false, cond, List, [], ◌∷◌, length, refl, ap, sym, ◌∙◌, arith, Option, Some, None}
 use Rattle.std.specs.Prelude.{◌==◌, slice_get}
 use Rattle.std.specs.List.{AllByRecursion}
 use Rattle.std.specs.Option.{option_map_or}
 use Rattle.std.proofs.lemmas.Bool.{eq-eqb, eqb-true}
 use Rattle.std.proofs.lemmas.Option.{same_Some, slice_get_within}
-use Rattle.chare_base.specs.declared.message.EntryId.{EntryId}
 use Rattle.chare_base.specs.declared.message.Port.{Port}
 use Rattle.chare_base.specs.declared.message.Port.TheVariants as ports
-use Rattle.chare_base.specs.declared.message.ReductionId.{ReductionId}
 use Rattle.chare_base.specs.declared.plan.Entry.{Entry}
 use Rattle.chare_base.specs.declared.plan.Part.{Part}
 use Rattle.chare_base.specs.declared.plan.Plan.{Plan}
@@ -16,7 +14,7 @@ use Rattle.chare_base.specs.declared.plan.Reduction.{Reduction}
 use Rattle.chare_base.specs.declared.plan.Step.{Step}
 use Rattle.chare_base.specs.declared.plan.Stmt.{Stmt, out-Stmt}
 use Rattle.chare_base.specs.declared.plan.Stmt.TheOpen.{Stmt-F}
-use Rattle.chare_base.specs.Elements.{block_at, parts_at, place_of, steps_of}
+use Rattle.chare_base.specs.Elements.{parts_at, place_of, steps_of}
 use Rattle.chare_base.specs.Entries.{entry_of, reduction_of}
 use Rattle.chare_base.specs.Laws.{SendsDeclared, Sent}
 use Rattle.chare_base.specs.Ports.{block_sends, counted, entry_port, fed_by, parts_send, steps_in, steps_send, stmt_sends, total_port}

@@ -1,5 +1,5 @@
 -- The least element that waits: where none of a replica's elements can run below a limit, all have completed as many iterations.
-use Rattle.std.proofs.Common.{◌≡◌, ℕ, zero, suc, ◌+◌, ◌<◌, ◌≤◌, inl, inr, Bool, true, false, cond, List, [], ◌∷◌, length, Option, Some, None, IsSome, refl, ap, sym, ◌∙◌, arith, subst}
+use Rattle.std.proofs.Common.{◌≡◌, ℕ, zero, suc, ◌<◌, ◌≤◌, inl, inr, Bool, true, false, cond, List, [], ◌∷◌, Option, Some, None, refl, ap, sym, ◌∙◌, arith, subst}
 use Rattle.std.specs.Prelude.{◌⊎◌, ◌==◌, ◌&&◌, is_none, is_some, nat_lt, slice_get}
 use Rattle.std.specs.Option.{option_map_or}
 use Rattle.std.proofs.lemmas.Bool.{eq-eqb, eqb-true, ltb-true}
@@ -18,16 +18,16 @@ use Rattle.chare_base.specs.declared.plan.ElementId.{ElementId}
 use Rattle.chare_base.specs.declared.plan.Part.{Part}
 use Rattle.chare_base.specs.declared.plan.Plan.{Plan}
 use Rattle.chare_base.specs.declared.plan.Reduction.{Reduction}
-use Rattle.chare_base.specs.Elements.{block_at, elements, need_at, parts_at, place_of, steps_of}
+use Rattle.chare_base.specs.Elements.{elements, need_at, parts_at, place_of, steps_of}
 use Rattle.chare_base.specs.Entries.{id_of, reduction_of, source_of}
 use Rattle.chare_base.specs.Laws as laws
-use Rattle.chare_base.specs.Ports.{block_sends, parts_send, parts_take, port_needed, same_port, takes, taking_step}
+use Rattle.chare_base.specs.Ports.{block_sends, parts_send, parts_take, same_port, takes, taking_step}
 use Rattle.chare_eval.specs.Inside.{is_done}
 use Rattle.chare_eval.specs.Stage.{found}
 use Rattle.ref_messages.specs.Queue.{message}
 use Rattle.object_steps.specs.declared.ready.Ready.{Ready}
 use Rattle.object_steps.specs.declared.ready.Ready.TheVariants as ready_as
-use Rattle.object_steps.specs.Objects.{Fits, Progress, arrived, key_of, ready}
+use Rattle.object_steps.specs.Objects.{Fits, Progress, key_of, ready}
 use Rattle.object_steps.specs.Turns.{ReadyTells, Waits}
 use Rattle.node_core.specs.Mail.{Contributes, Got, HasContributed, Past, PastIn, Sends, Took}
 use Rattle.node_core.specs.Turns.{can_run, is_step}

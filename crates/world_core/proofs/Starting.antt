@@ -1,5 +1,5 @@
 -- At the start nothing is lost.
-use Rattle.std.proofs.Common.{◌≡◌, ℕ, zero, suc, ◌≤◌, ◌<◌, inl, inr, Bool, true, false, List, [], ◌∷◌, ◌++◌, refl, arith, Option, Some, None}
+use Rattle.std.proofs.Common.{◌≡◌, ℕ, zero, suc, ◌≤◌, ◌<◌, inl, inr, Bool, true, false, List, [], ◌∷◌, ◌++◌, refl, arith, Option, None}
 use Rattle.std.specs.Prelude.{◌⊎◌, ◌&&◌}
 use Rattle.std.specs.List.{AllByRecursion, list_all}
 use Rattle.chare_base.specs.declared.plan.Plan.{Plan}
@@ -8,14 +8,13 @@ use Rattle.chare_base.specs.declared.slots.SlotId.{SlotId}
 use Rattle.chare_base.specs.Placing.{members}
 use Rattle.letter_post.specs.declared.stamp.Stamp.{Stamp}
 use Rattle.pup_state.specs.declared.compare.Verdict.{Verdict}
-use Rattle.object_steps.specs.Objects.{Progress}
 use Rattle.node_core.specs.Mail.{AllNumbered, Contributed, Owes, Paid}
 use Rattle.node_core.specs.Nodes.{Body, NodeState}
 use Rattle.node_core.specs.Starts.{opening_body, opening_stamp, start_state, starts}
 use Rattle.conductor_core.specs.Conductors.{is_equal, start_conductor, unheard}
 use Rattle.conductor_core.specs.Openings.{all_lines}
 use Rattle.world_core.specs.Still.{Awake, SlotAfloat, StartIsAfloat}
-use Rattle.world_core.specs.Worlds.{Setting, SlotState, opening_slots, opening_world}
+use Rattle.world_core.specs.Worlds.{Setting, opening_slots, opening_world}
 use Rattle.world_core.proofs.Framing.{opening_slot}
 use Rattle.world_core.proofs.Lists.{all_behind, all_joined}
 

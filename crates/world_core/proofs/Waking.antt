@@ -1,5 +1,5 @@
 -- A live node stays live through runs, packs and letters, and the pieces that it sends and holds are replica 1's.
-use Rattle.std.proofs.Common.{◌≡◌, ℕ, ℤ, Bool, true, false, cond, List, [], ◌∷◌, ◌++◌, length, refl, ap, sym, ◌∙◌, subst, Option, Some, None}
+use Rattle.std.proofs.Common.{◌≡◌, ℕ, ℤ, Bool, true, false, cond, List, [], ◌∷◌, length, refl, sym, ◌∙◌, subst, Option, Some, None}
 use Rattle.std.specs.Prelude.{◌==◌, ◌&&◌, IfSome, map, slice_get}
 use Rattle.std.specs.List.{AllByRecursion}
 use Rattle.std.proofs.lemmas.Bool.{eqb-true}
@@ -24,7 +24,7 @@ use Rattle.object_steps.specs.Objects.{Progress}
 use Rattle.pup_state.specs.declared.piece.Piece.{Piece}
 use Rattle.node_core.specs.declared.piece.Held.{Held}
 use Rattle.node_core.specs.declared.turn.Sender.{Sender}
-use Rattle.node_core.specs.Nodes.{Body, Heard, NodeState, Outcome, Passing, Ran, body_heard, body_packed, body_ran, body_ran_at, body_ran_by, body_turned, compared, contributed_to, idle_of, is_new, node_heard, node_heard_by, node_packed, node_packed_by, node_ran, node_ran_by, out_of, outcome_of, parcel_heard, parcel_of, partial_heard, partial_sent, passed, passed_one, piece_kept, piece_of, sender_of, share_heard, stands, to_slot, total_heard, total_sent, total_to, turn_of, unmoved, verdict_sent, with_tallied}
+use Rattle.node_core.specs.Nodes.{Body, Heard, NodeState, Outcome, Passing, Ran, body_heard, body_packed, body_ran, body_ran_at, body_ran_by, compared, contributed_to, idle_of, is_new, node_heard, node_heard_by, node_packed, node_packed_by, node_ran, node_ran_by, out_of, outcome_of, parcel_heard, parcel_of, partial_heard, partial_sent, passed, passed_one, piece_kept, piece_of, sender_of, share_heard, stands, to_slot, total_heard, total_sent, total_to, turn_of, unmoved, verdict_sent, with_tallied}
 use Rattle.node_core.specs.Rosters.{Roster, count_of, number_in, seat_of, sharers_of}
 use Rattle.node_core.specs.Turns.{Turned, begins, turned}
 use Rattle.node_core.specs.Gatherings.{tallied}

@@ -1,6 +1,6 @@
 -- Worlds in which nothing is lost, and worlds that end.
-use Rattle.std.specs.Prelude.{◌≡◌, ℕ, ◌+◌, ◌-◌, ◌^◌, ◌<◌, ◌≤◌, ◌⊎◌, if◌then◌else◌, is_some, Bool, true, false, List, [], ◌∷◌, length, map, Option, Some, None, IfSome, IsSome}
-use Rattle.std.specs.List.{AllByRecursion, list_all}
+use Rattle.std.specs.Prelude.{◌≡◌, ℕ, ◌+◌, ◌-◌, ◌^◌, ◌<◌, ◌≤◌, ◌⊎◌, if◌then◌else◌, is_some, true, false, List, [], length, map, Some, None, IfSome, IsSome}
+use Rattle.std.specs.List.{AllByRecursion}
 use Rattle.chare_base.specs.declared.options.Options.{Options}
 use Rattle.chare_base.specs.declared.plan.Plan.{Plan}
 use Rattle.chare_base.specs.declared.slots.SlotId.{SlotId}
@@ -26,7 +26,7 @@ use Rattle.world_core.specs.declared.event.Event.{Event}
 use Rattle.world_core.specs.Bounds.{turns_bound}
 use Rattle.world_core.specs.Drills.{drilled}
 use Rattle.world_core.specs.Sound.{IsPlaced, Sound}
-use Rattle.world_core.specs.Worlds.{Posts, Setting, SlotState, WorldState, enabled, happens, opening_world, picked, reached, slot_at}
+use Rattle.world_core.specs.Worlds.{Setting, SlotState, WorldState, enabled, happens, opening_world, picked, reached, slot_at}
 
 -- ---- nothing is lost
 
