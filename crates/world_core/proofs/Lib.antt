@@ -1,4 +1,5 @@
 pub mod Ables
+pub mod Prefixes
 pub mod Lists
 pub mod Caps
 pub mod Steady
