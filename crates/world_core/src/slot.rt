@@ -204,17 +204,20 @@ fn doing_of(plan: &Plan, node: &Node, inbox: &Inbox, able: &mut Able) -> Option<
     }
 }
 
+// Whether all elements are through is asked only where none can run, since that looks at all of them.
+#[tactic(auto, using(crate::proofs::Busy::it_runs, crate::proofs::Busy::it_moves, crate::proofs::Busy::it_stays))]
 fn node_doing(plan: &Plan, node: &Node, able: &mut Able) -> Option<Doing>
     requires { able.old ≡ ables plan.now node.now }
     ensures doing { result ≡ node_doing plan.now node.now }
     ensures stays { able.new ≡ able.old }
 {
-    if move_due(plan, node) {
-        return Some(Doing::Move);
+    if let Some(e) = first_running(plan, node, able) {
+        return Some(Doing::Run(e));
     }
-    match first_running(plan, node, able) {
-        Some(e) => Some(Doing::Run(e)),
-        None => None,
+    if move_due(plan, node) {
+        Some(Doing::Move)
+    } else {
+        None
     }
 }
 
