@@ -10,7 +10,7 @@ ghost use Rattle.world_core.specs.Sound.{SlotSound};
 ghost use Rattle.world_core.specs.Steps.{Acted, acted, can_hear, can_move, can_run_on, has_letter, heard_first, setting};
 ghost use Rattle.world_core.specs.Worlds.{ables, doing_of, move_due, node_doing, renewed, slot_put};
 
-use crate::able::{first_able, mark, mark_by, reach_of, start_able};
+use crate::able::{Able, mark, mark_by, reach_of, start_able};
 use crate::doing::Doing;
 use crate::inbox::Inbox;
 use chare_base::memory::Memory;
@@ -31,7 +31,7 @@ use std::marker::Model;
 pub struct Slot {
     node: Node,
     inbox: Inbox,
-    able: Vec<bool>,
+    able: Able,
     doing: Option<Doing>,
 }
 
@@ -40,7 +40,7 @@ impl Model for Slot {
 
     ghost Value = { SlotState };
 
-    ghost view = { λ s. record { node = s.node; box = s.inbox; able = s.able.items; doing = s.doing } };
+    ghost view = { λ s. record { node = s.node; box = s.inbox; able = s.able; doing = s.doing } };
 }
 
 impl Slot {
@@ -60,9 +60,9 @@ impl Slot {
     {
         nodes_keep();
         let node = Node::start(alloc, plan, script, map, slot, live)?;
-        let mut able = Vec::new(alloc);
+        let mut able = Able::new(alloc);
         start_able(plan, &node, &mut able)?;
-        let doing = node_doing(plan, &node, able.as_slice());
+        let doing = node_doing(plan, &node, &mut able);
         Ok(Slot {
             node,
             inbox: Inbox::new(alloc),
@@ -139,7 +139,7 @@ impl Slot {
             .node
             .run_element(alloc, plan, script, map, e, plan.iterations())?;
         mark(plan, &self.node, e, &mut self.able);
-        self.doing = doing_of(plan, &self.node, &self.inbox, self.able.as_slice());
+        self.doing = doing_of(plan, &self.node, &self.inbox, &mut self.able);
         Ok(sent_by(alloc, turn))
     }
 
@@ -162,7 +162,7 @@ impl Slot {
                 let reach = reach_of(&letter);
                 let out = self.node.hear(alloc, plan, script, map, letter)?;
                 mark_by(plan, &self.node, reach, &mut self.able)?;
-                self.doing = doing_of(plan, &self.node, &self.inbox, self.able.as_slice());
+                self.doing = doing_of(plan, &self.node, &self.inbox, &mut self.able);
                 Ok(out)
             }
             None => Ok(Outbox::new(alloc)),
@@ -186,15 +186,16 @@ impl Slot {
         let _ = map;
         nodes_keep();
         let out = self.node.pack(alloc, plan, script, plan.iterations())?;
-        self.doing = doing_of(plan, &self.node, &self.inbox, self.able.as_slice());
+        self.doing = doing_of(plan, &self.node, &self.inbox, &mut self.able);
         Ok(out)
     }
 }
 
 // What a slot would do next.
-fn doing_of(plan: &Plan, node: &Node, inbox: &Inbox, able: &[bool]) -> Option<Doing>
-    requires { able.now ≡ ables plan.now node.now }
-    ensures { result ≡ doing_of plan.now node.now inbox.now }
+fn doing_of(plan: &Plan, node: &Node, inbox: &Inbox, able: &mut Able) -> Option<Doing>
+    requires { able.old ≡ ables plan.now node.now }
+    ensures doing { result ≡ doing_of plan.now node.now inbox.now }
+    ensures stays { able.new ≡ able.old }
 {
     if inbox.has_letter() {
         Some(Doing::Hear)
@@ -203,30 +204,35 @@ fn doing_of(plan: &Plan, node: &Node, inbox: &Inbox, able: &[bool]) -> Option<Do
     }
 }
 
-fn node_doing(plan: &Plan, node: &Node, able: &[bool]) -> Option<Doing>
-    requires { able.now ≡ ables plan.now node.now }
-    ensures { result ≡ node_doing plan.now node.now }
+// Whether all elements are through is asked only where none can run, since that looks at all of them.
+#[tactic(auto, using(crate::proofs::Busy::it_runs, crate::proofs::Busy::it_moves, crate::proofs::Busy::it_stays))]
+fn node_doing(plan: &Plan, node: &Node, able: &mut Able) -> Option<Doing>
+    requires { able.old ≡ ables plan.now node.now }
+    ensures doing { result ≡ node_doing plan.now node.now }
+    ensures stays { able.new ≡ able.old }
 {
-    if move_due(plan, node) {
-        return Some(Doing::Move);
+    if let Some(e) = first_running(plan, node, able) {
+        return Some(Doing::Run(e));
     }
-    match first_running(plan, node, able) {
-        Some(e) => Some(Doing::Run(e)),
-        None => None,
+    if move_due(plan, node) {
+        Some(Doing::Move)
+    } else {
+        None
     }
 }
 
 // The least element that can run.
 #[tactic(auto, using(crate::proofs::Ables::rests_is, crate::proofs::Ables::none_is, crate::proofs::Ables::some_is))]
-fn first_running(plan: &Plan, node: &Node, able: &[bool]) -> Option<ElementId>
-    requires { able.now ≡ ables plan.now node.now }
-    ensures { result ≡ first_running plan.now plan.now.iterations node.now }
+fn first_running(plan: &Plan, node: &Node, able: &mut Able) -> Option<ElementId>
+    requires { able.old ≡ ables plan.now node.now }
+    ensures first { result ≡ first_running plan.now plan.now.iterations node.now }
+    ensures stays { able.new ≡ able.old }
 {
     let _ = plan;
     if node.rests() {
         return None;
     }
-    match first_able(able) {
+    match able.first() {
         None => None,
         Some(seat) => node.element_of_seat(seat),
     }
