@@ -16,7 +16,7 @@ use Rattle.fault_script.specs.declared.fault.Fault.{Fault}
 use Rattle.letter_post.specs.declared.letter.BoxId.TheVariants as boxes
 use Rattle.letter_post.specs.declared.letter.Letter.{Letter}
 use Rattle.letter_post.specs.Stamps.{lines_of}
-use Rattle.letter_post.specs.Truth.{Holds, IsPiece, Says, contributions_of, node_members, node_records, node_verdict}
+use Rattle.letter_post.specs.Truth.{Holds, IsPiece, Says, contributions_of, node_members}
 use Rattle.object_steps.specs.Laws.{Follows}
 use Rattle.object_steps.specs.Objects.{Fits, Progress}
 use Rattle.object_steps.specs.Partial.{Gathered}

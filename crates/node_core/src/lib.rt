@@ -17,5 +17,6 @@ mod object;
 mod passing;
 pub mod piece;
 mod roster;
+pub mod running;
 mod tallies;
 pub mod turn;

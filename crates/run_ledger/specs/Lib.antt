@@ -3,6 +3,7 @@ pub mod Lines
 pub mod Ledgers
 pub mod Conditions
 pub mod Lawful
+pub mod Checkpoints
 pub mod Later
 pub mod Laws
 pub mod Apart

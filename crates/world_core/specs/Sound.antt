@@ -12,7 +12,7 @@ use Rattle.conductor_core.specs.Tells.{Tells}
 use Rattle.conductor_core.specs.Conductors.{IsOf}
 use Rattle.world_core.specs.declared.event.Event.{Event}
 use Rattle.world_core.specs.Steps.{Current}
-use Rattle.world_core.specs.Worlds.{Setting, SlotState, WorldState, doing_of, happens, opening_world, reached}
+use Rattle.world_core.specs.Worlds.{Setting, SlotState, WorldState, ables, doing_of, happens, opening_world, reached}
 
 -- every letter of an inbox is true to it
 abbrev pub AllTrue : Setting → BoxId → List Letter → Type 0
@@ -24,7 +24,8 @@ pub record SlotSound (s : Setting) (x : SlotState) : Type 0 where
   -- a piece that it packed is of the last iteration
   pub capped : Capped s.plan.iterations x.node
   pub letters : AllTrue s (boxes.Slot x.node.slot) x.box
-  -- what it is kept to do is what it would do
+  -- what is kept of it is so: which of its objects can run, and what it would do
+  pub able : x.able ≡ ables s.plan x.node
   pub current : x.doing ≡ doing_of s.plan x.node x.box
 
 pub record Sound (s : Setting) (w : WorldState) : Type 0 where

@@ -1,5 +1,5 @@
 -- The world: all slots with their inboxes, the conductor with its own, and what each event makes of it.
-use Rattle.std.specs.Prelude.{ℕ, zero, suc, ◌+◌, ◌-◌, ◌*◌, ◌/◌, ◌%◌, ◌^◌, Bool, false, not, ◌==◌, ◌&&◌, nat_lt, is_some, if◌then◌else◌, List, [], ◌∷◌, ◌++◌, length, slice_get, slice_set, Option, Some, None}
+use Rattle.std.specs.Prelude.{ℕ, zero, suc, ◌+◌, ◌-◌, ◌*◌, ◌/◌, ◌%◌, ◌^◌, Bool, false, not, ◌==◌, ◌&&◌, nat_lt, is_some, if◌then◌else◌, List, [], ◌∷◌, ◌++◌, length, map, slice_get, slice_set, Option, Some, None}
 use Rattle.chare_base.specs.declared.plan.ElementId.{ElementId}
 use Rattle.chare_base.specs.declared.plan.Plan.{Plan}
 use Rattle.chare_base.specs.declared.slots.SlotId.{SlotId}
@@ -8,7 +8,8 @@ use Rattle.letter_post.specs.declared.letter.BoxId.{BoxId}
 use Rattle.letter_post.specs.declared.letter.BoxId.TheVariants as boxes
 use Rattle.letter_post.specs.declared.letter.Letter.{Letter}
 use Rattle.letter_post.specs.declared.letter.Sent.{Sent}
-use Rattle.node_core.specs.Nodes.{NodeState, Outcome, all_at, first_running, has_packed, node_heard, node_packed, node_ran, outcome_of, rests}
+use Rattle.node_core.specs.Nodes.{NodeState, Outcome, all_at, first_running, has_packed, node_heard, node_packed, node_ran, objects_of, outcome_of, rests}
+use Rattle.node_core.specs.Turns.{can_run}
 use Rattle.node_core.specs.Starts.{start_state}
 use Rattle.conductor_core.specs.Conductors.{ConductorState, Heard, conductor_heard, start_conductor}
 use Rattle.conductor_core.specs.Openings.{all_lines}
@@ -32,6 +33,8 @@ pub record SlotState : Type 0 where
   pub node : NodeState
   -- its inbox, the letter that came first in front
   pub box : List Letter
+  -- of each of its node's objects whether it can run, kept
+  pub able : List Bool
   -- what it would do next, kept
   pub doing : Option Doing
 
@@ -65,9 +68,13 @@ abbrev pub doing_of : Plan → NodeState → List Letter → Option Doing
 doing_of p n [] = node_doing p n
 doing_of p n (letter ∷ more) = Some doings.Hear
 
+-- of each of a node's objects whether it can run
+abbrev pub ables : Plan → NodeState → List Bool
+ables p n = map (can_run p p.iterations) (objects_of n.body)
+
 -- a slot with this node and inbox
 abbrev pub renewed : Plan → NodeState → List Letter → SlotState
-renewed p n box = record { node = n; box = box; doing = doing_of p n box }
+renewed p n box = record { node = n; box = box; able = ables p n; doing = doing_of p n box }
 
 -- ---- slots by their names
 
@@ -89,7 +96,7 @@ with_slot nodes all slot s = slice_set all (number_of nodes slot) s
 
 -- a letter comes at the back, so the slot hears next
 abbrev pub slot_put : Letter → SlotState → SlotState
-slot_put letter s = record { node = s.node; box = s.box ++ letter ∷ []; doing = Some doings.Hear }
+slot_put letter s = record { node = s.node; box = s.box ++ letter ∷ []; able = s.able; doing = Some doings.Hear }
 
 abbrev pub put_by : ℕ → SlotId → Letter → Posts → Option SlotState → Posts
 put_by nodes slot letter b None = b

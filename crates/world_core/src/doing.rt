@@ -12,3 +12,11 @@ pub enum Doing {
     /// It runs this element.
     Run(ElementId),
 }
+
+/// Which of a node's elements a letter may touch.
+#[derive(Clone, Copy, Debug, PartialEq, Eq)]
+pub enum Reach {
+    Nobody,
+    Element(ElementId),
+    Everybody,
+}
