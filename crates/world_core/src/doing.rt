@@ -16,7 +16,10 @@ pub enum Doing {
 /// Which of a node's elements a letter may touch.
 #[derive(Clone, Copy, Debug, PartialEq, Eq)]
 pub enum Reach {
+    /// None of them.
     Nobody,
+    /// This one.
     Element(ElementId),
+    /// Any of them.
     Everybody,
 }

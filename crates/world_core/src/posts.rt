@@ -1,6 +1,6 @@
 //! All slots, and the letters that go to them.
 
-ghost use Rattle.std.specs.Prelude.{◌≡◌, ◌+◌, ◌*◌, ◌<◌, ◌++◌, ◌∷◌, [], ℕ, Bool, length, OnOk, IfOk, slice_get};
+ghost use Rattle.std.specs.Prelude.{◌≡◌, ◌+◌, ◌*◌, ◌<◌, ◌++◌, ◌∷◌, [], ℕ, Bool, length, OnOk, IfOk, IfSome, None, slice_get};
 ghost use Rattle.std.specs.List.{AllByRecursion};
 ghost use Rattle.chare_base.specs.Elements.{elements};
 ghost use Rattle.conductor_core.specs.Conductors.{ConductorState};
@@ -52,17 +52,30 @@ fn number_of(nodes: u16, slot: SlotId) -> usize
     slot.replica as usize * nodes as usize + slot.node as usize
 }
 
+// The place of a slot among all; None exactly where no slot has this name.
+fn find(nodes: u16, slots: &[Slot], slot: SlotId) -> Option<usize>
+    ensures none { result ≡ None → slot_at nodes slots.now slot ≡ None }
+    ensures there { IfSome result (λ i. slot_at nodes slots.now slot ≡ slice_get slots.now i) }
+    ensures place { IfSome result (λ i. i ≡ number_of nodes slot) }
+    ensures within { IfSome result (λ i. i < length slots.now) }
+{
+    let i = number_of(nodes, slot);
+    if i < slots.len() {
+        if slots[i].is(slot) {
+            return Some(i);
+        }
+    }
+    None
+}
+
 // Puts a letter at the back of its inbox.
 fn put_in(nodes: u16, sent: Sent, slots: &mut Vec<Slot>, desk: &mut Inbox) -> Result<(), Memory>
     ensures { OnOk result (record { slots = slots.new.items; desk = desk.new } ≡ put_in nodes sent.to sent.letter (record { slots = slots.old.items; desk = desk.old })) }
 {
     match sent.to {
         BoxId::Slot(slot) => {
-            let i = number_of(nodes, slot);
-            if i < slots.len() {
-                if slots[i].is(slot) {
-                    slots[i].put(sent.letter)?;
-                }
+            if let Some(i) = find(nodes, slots.as_slice(), slot) {
+                slots[i].put(sent.letter)?;
             }
             Ok(())
         }
@@ -106,12 +119,9 @@ pub fn run_at<M: Placement>(
     ensures { (c : ConductorState) (over : Bool) → OnOk result (record { posts = record { slots = slots.new.items; desk = desk.new }; conductor = c; over = over } ≡ ran_by (setting plan.now (faults_of script.now) (M.place map.now) (M.count map.now)) slot e (record { posts = record { slots = slots.old.items; desk = desk.old }; conductor = c; over = over }) (slot_at (M.count map.now) slots.old.items slot)) }
 {
     let nodes = map.nodes();
-    let i = number_of(nodes, slot);
-    if i < slots.len() {
-        if slots[i].is(slot) {
-            let out = slots[i].run(alloc, plan, script, map, e)?;
-            deliver(nodes, out, slots, desk)?;
-        }
+    if let Some(i) = find(nodes, slots.as_slice(), slot) {
+        let out = slots[i].run(alloc, plan, script, map, e)?;
+        deliver(nodes, out, slots, desk)?;
     }
     Ok(())
 }
@@ -132,13 +142,10 @@ pub fn hear_at<M: Placement>(
     ensures { (c : ConductorState) (over : Bool) → OnOk result (record { posts = record { slots = slots.new.items; desk = desk.new }; conductor = c; over = over } ≡ heard_by (setting plan.now (faults_of script.now) (M.place map.now) (M.count map.now)) slot (record { posts = record { slots = slots.old.items; desk = desk.old }; conductor = c; over = over }) (slot_at (M.count map.now) slots.old.items slot)) }
 {
     let nodes = map.nodes();
-    let i = number_of(nodes, slot);
-    if i < slots.len() {
-        if slots[i].is(slot) {
-            if slots[i].can_hear() {
-                let out = slots[i].hear(alloc, plan, script, map)?;
-                deliver(nodes, out, slots, desk)?;
-            }
+    if let Some(i) = find(nodes, slots.as_slice(), slot) {
+        if slots[i].can_hear() {
+            let out = slots[i].hear(alloc, plan, script, map)?;
+            deliver(nodes, out, slots, desk)?;
         }
     }
     Ok(())
@@ -160,13 +167,10 @@ pub fn move_at<M: Placement>(
     ensures { (c : ConductorState) (over : Bool) → OnOk result (record { posts = record { slots = slots.new.items; desk = desk.new }; conductor = c; over = over } ≡ moved_by (setting plan.now (faults_of script.now) (M.place map.now) (M.count map.now)) slot (record { posts = record { slots = slots.old.items; desk = desk.old }; conductor = c; over = over }) (slot_at (M.count map.now) slots.old.items slot)) }
 {
     let nodes = map.nodes();
-    let i = number_of(nodes, slot);
-    if i < slots.len() {
-        if slots[i].is(slot) {
-            if slots[i].can_move(plan) {
-                let out = slots[i].pack(alloc, plan, script, map)?;
-                deliver(nodes, out, slots, desk)?;
-            }
+    if let Some(i) = find(nodes, slots.as_slice(), slot) {
+        if slots[i].can_move(plan) {
+            let out = slots[i].pack(alloc, plan, script, map)?;
+            deliver(nodes, out, slots, desk)?;
         }
     }
     Ok(())
@@ -178,13 +182,10 @@ pub fn slot_event(plan: &Plan, nodes: u16, slots: &[Slot], slot: SlotId) -> Opti
     ensures { result ≡ slot_event plan.now slot (slot_at nodes slots.now slot) }
 {
     let _ = plan;
-    let i = number_of(nodes, slot);
-    if i < slots.len() {
-        if slots[i].is(slot) {
-            return event_of(slot, slots[i].doing());
-        }
+    match find(nodes, slots, slot) {
+        Some(i) => event_of(slot, slots[i].doing()),
+        None => None,
     }
-    None
 }
 
 fn event_of(slot: SlotId, doing: Option<Doing>) -> Option<Event>
@@ -203,39 +204,30 @@ fn can_run_at(plan: &Plan, nodes: u16, slots: &[Slot], slot: SlotId, e: ElementI
     requires { AllByRecursion (λ x. Fitted plan.now x.node) slots.now }
     ensures { result ≡ can_run_on plan.now e (slot_at nodes slots.now slot) }
 {
-    let i = number_of(nodes, slot);
-    if i < slots.len() {
-        if slots[i].is(slot) {
-            return slots[i].can_run(plan, e);
-        }
+    match find(nodes, slots, slot) {
+        Some(i) => slots[i].can_run(plan, e),
+        None => false,
     }
-    false
 }
 
 /// Whether a slot has a letter.
 fn can_hear_at(nodes: u16, slots: &[Slot], slot: SlotId) -> bool
     ensures { result ≡ can_hear (slot_at nodes slots.now slot) }
 {
-    let i = number_of(nodes, slot);
-    if i < slots.len() {
-        if slots[i].is(slot) {
-            return slots[i].can_hear();
-        }
+    match find(nodes, slots, slot) {
+        Some(i) => slots[i].can_hear(),
+        None => false,
     }
-    false
 }
 
 /// Whether a slot has a move to make.
 fn can_move_at(plan: &Plan, nodes: u16, slots: &[Slot], slot: SlotId) -> bool
     ensures { result ≡ can_move plan.now (slot_at nodes slots.now slot) }
 {
-    let i = number_of(nodes, slot);
-    if i < slots.len() {
-        if slots[i].is(slot) {
-            return slots[i].can_move(plan);
-        }
+    match find(nodes, slots, slot) {
+        Some(i) => slots[i].can_move(plan),
+        None => false,
     }
-    false
 }
 
 /// Whether an event can happen in a run that goes on.

@@ -26,7 +26,8 @@ use node_core::turn::Turn;
 use std::alloc::Global;
 use std::marker::Model;
 
-/// A slot: its node, its inbox, and what it would do next, kept so that it needn't be worked out at each turn.
+/// A slot: its node, its inbox, which objects of the node can run, and what it would do next. The last two are kept from
+/// event to event, so that an event looks at the objects that it touches alone.
 #[derive(Drop)]
 pub struct Slot {
     node: Node,
