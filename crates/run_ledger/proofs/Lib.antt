@@ -2,7 +2,6 @@ mod Bits
 mod Counts
 mod Checkpoints
 mod Bare
-mod Folds
 mod Lineages
 mod Spending
 mod Counting
