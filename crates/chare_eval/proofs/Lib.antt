@@ -1,7 +1,9 @@
 pub mod Appends
 pub mod Computing
 pub mod Earlier
+pub mod Fitting
 pub mod Frames
+pub mod Later
 pub mod Mail
 pub mod Order
 pub mod Scenes

@@ -1,7 +1,7 @@
 mod Bits
 mod Counts
+mod Checkpoints
 mod Bare
-mod Folds
 mod Lineages
 mod Spending
 mod Counting
