@@ -3,11 +3,12 @@ use Rattle.std.proofs.Common.{◌≡◌, ℕ, zero, suc, ◌+◌, ◌*◌, ◌�
 use Rattle.std.specs.Prelude.{min, nat_le}
 use Rattle.std.proofs.Math.Nat.{min-eq_left, min-eq_right, mul-le-mul_left}
 use Rattle.std.proofs.lemmas.Bool.{leb-true, leb-false}
+use native.Mathlib.Numerals.{unary_clauses}
 
 module _ (m : ℕ) where
   -- by whether it is within
   pub split : {A : Type 0} (a : ℕ) → (a ≤ m → A) → (m ≤ a → A) → A
-  split a low high = by (nat_le a m) refl
+  split {A = A} a low high = by (nat_le a m) refl
     where
       by : (b : Bool) → nat_le a m ≡ b → A
       by true t = low (leb-true a m t)
@@ -38,7 +39,7 @@ module _ (m : ℕ) where
       (λ high. ap (λ n. min (a * n) m) (above b high) ∙ by a high)
     where
       by : (a : ℕ) → m ≤ b → min (a * m) m ≡ min (a * b) m
-      by zero high = refl
+      by zero high = simp unary_clauses
       by (suc n) high =
           let more : n * m ≤ n * b = mul-le-mul_left n high in
           same (suc n * m) (suc n * b) (let q : suc n * m ≡ m + n * m = omega arith in omega (arith, q)) (let q : suc n * b ≡ b + n * b = omega arith in omega (arith, q, high))

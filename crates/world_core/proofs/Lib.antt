@@ -5,3 +5,4 @@ pub mod Serving
 pub mod Capping
 pub mod Picks
 pub mod Plainly
+pub mod Firsts

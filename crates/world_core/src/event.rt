@@ -6,7 +6,9 @@ use chare_base::slots::SlotId;
 /// Who makes events.
 #[derive(Clone, Copy, Debug, PartialEq, Eq)]
 pub enum Actor {
+    /// The slot of this name.
     Slot(SlotId),
+    /// The conductor.
     Conductor,
 }
 
