@@ -7,25 +7,23 @@ use Rattle.chare_base.specs.declared.slots.SlotId.{SlotId}
 use Rattle.fault_script.specs.declared.fault.Fault.{Fault}
 use Rattle.iteration_agree.specs.Cuts.{CutState, agreed, agreement, begun_by, noted, opened, opening_cut, packed_by, quieted, released_by, reported_by, rewound_by, seen_by, slot_of}
 use Rattle.iteration_agree.specs.Rounds.{number}
-use Rattle.iteration_agree.specs.Slots.{is_packed, leave, reported, sight_of}
-use Rattle.iteration_agree.specs.declared.round.Leave.{Leave}
-use Rattle.iteration_agree.specs.declared.round.Leave.TheVariants as leaves
+use Rattle.iteration_agree.specs.Slots.{sight_of, standing_of}
 use Rattle.iteration_agree.specs.declared.round.Round.{Round}
 use Rattle.iteration_agree.specs.declared.round.Round.TheVariants.{Quiet, Gather, Agreed}
 use Rattle.iteration_agree.specs.declared.round.Sight.{Sight}
-use Rattle.iteration_agree.specs.declared.slot.Slot.{Slot}
+use Rattle.iteration_agree.specs.declared.round.Standing.{Standing}
 use Rattle.letter_post.specs.declared.letter.BoxId.{BoxId}
 use Rattle.letter_post.specs.declared.letter.BoxId.TheVariants as boxes
 use Rattle.letter_post.specs.declared.letter.Letter.{Letter}
 use Rattle.letter_post.specs.declared.letter.Letter.TheVariants as letters
 use Rattle.letter_post.specs.declared.letter.Sent.{Sent}
-use Rattle.node_core.specs.Nodes.{NodeState, Outcome, all_at, first_running, next_begin, node_heard, node_packed, node_ran, objects_of, outcome_of, rests}
-use Rattle.node_core.specs.Turns.{can_run}
+use Rattle.node_core.specs.Nodes.{NodeState, Outcome, first_running, node_heard, node_packed, node_ran, outcome_of}
 use Rattle.node_core.specs.Starts.{start_state}
 use Rattle.conductor_core.specs.Conductors.{ConductorState, Heard, conductor_did, conductor_heard, wanted, start_conductor}
-use Rattle.conductor_core.specs.declared.moves.CutAnswer.TheVariants as answers
-use Rattle.conductor_core.specs.declared.moves.CutMove.{CutMove}
-use Rattle.conductor_core.specs.declared.moves.CutMove.TheVariants as moves
+use Rattle.conductor_core.specs.Conductors.{sight_of as last_sight}
+use Rattle.conductor_core.specs.declared.wants.CutAnswer.TheVariants as answers
+use Rattle.conductor_core.specs.declared.wants.CutMove.{CutMove}
+use Rattle.conductor_core.specs.declared.wants.CutMove.TheVariants as moves
 use Rattle.conductor_core.specs.Openings.{all_lines}
 use Rattle.world_core.specs.declared.doing.Doing.{Doing}
 use Rattle.world_core.specs.declared.doing.Doing.TheVariants as doings
@@ -39,6 +37,7 @@ use Rattle.world_core.specs.declared.event.Chooser.{Chooser}
 use Rattle.world_core.specs.declared.event.Chooser.TheVariants as choosers
 use Rattle.world_core.specs.declared.event.Event.{Event}
 use Rattle.world_core.specs.declared.event.Event.TheVariants as events
+use Rattle.world_core.specs.Moves.{move_of}
 
 -- What a run is of: a plan, the faults of its script, the node of each element, and how many nodes a replica has.
 pub record Setting : Type 0 where
@@ -55,8 +54,6 @@ pub record SlotState : Type 0 where
   pub back : Option ℕ
   -- which orders it heard since it last packed
   pub since : Since
-  -- of each of its objects whether it can run below the slot's top, kept
-  pub able : List Bool
   -- what it would do next, kept
   pub doing : Option Doing
 
@@ -72,83 +69,6 @@ pub record WorldState : Type 0 where
   -- whether memory ran out: then it is of no further use
   pub over : Bool
 
--- ---- a slot's moves on the agreement
-
-abbrev pub same_round : Round → Round → Bool
-same_round (Quiet a) (Quiet b) = a == b
-same_round (Gather a f) (Gather b g) = a == b && f == g
-same_round (Agreed a j) (Agreed b k) = a == b && j == k
-same_round (Quiet a) (Gather b g) = false
-same_round (Quiet a) (Agreed b k) = false
-same_round (Gather a f) (Quiet b) = false
-same_round (Gather a f) (Agreed b k) = false
-same_round (Agreed a j) (Quiet b) = false
-same_round (Agreed a j) (Gather b g) = false
-
--- the iteration to which a slot that reported may go back at most: the floor, or the agreed iteration
-abbrev pub goes_to : ℕ → Round → Bool
-goes_to base (Quiet r) = true
-goes_to base (Gather r floor) = nat_le base floor
-goes_to base (Agreed r k) = nat_le base k
-
-abbrev pub may_go_back : ℕ → Slot → Bool
-may_go_back base slot = nat_le base 1000000 && (is_none (reported slot) || goes_to base slot.seen)
-
-abbrev pub back_due : Slot → Option ℕ → Option SlotMove
-back_due slot None = None
-back_due slot (Some base) = if may_go_back base slot then Some (slot_moves.Rewind base) else None
-
-abbrev pub is_resumed : Since → Bool
-is_resumed Nothing = false
-is_resumed Ordered = false
-is_resumed Resumed = true
-
-abbrev pub release_due : Slot → Since → Bool
-release_due slot since = is_resumed since && not slot.free && is_none (reported slot)
-
--- it reports where it saw the round gather
-abbrev pub report_due : Slot → Round → Bool
-report_due slot (Quiet r) = false
-report_due slot (Gather r floor) = slot.free && is_none (reported slot)
-report_due slot (Agreed r k) = false
-
--- it packs where it saw a round agreed whose iteration all its elements have completed, and none has begun
-abbrev pub pack_due : Plan → NodeState → Slot → Round → Option ℕ
-pack_due p n slot (Quiet r) = None
-pack_due p n slot (Gather r floor) = None
-pack_due p n slot (Agreed r k) = if slot.top == k && nat_le k p.iterations && all_at k n && not (is_packed slot) then Some k else None
-
-abbrev pub goes_on_from : Leave → Bool
-goes_on_from leaves.Go = true
-goes_on_from (leaves.Hold limit) = false
-
--- it begins the next iteration of its elements, where that is its top and the agreement lets it
-abbrev pub begin_due : Slot → Option ℕ → Option SlotMove
-begin_due slot None = None
-begin_due slot (Some k) = if k == slot.top && goes_on_from (leave slot k) then Some (slot_moves.Begin k) else None
-
-abbrev pub pack_or_begin : NodeState → Slot → Option ℕ → Option SlotMove
-pack_or_begin n slot (Some k) = Some (slot_moves.Pack k)
-pack_or_begin n slot None = begin_due slot (next_begin n)
-
--- those moves that a slot makes unless it waits for Resume
-abbrev pub move_on : Plan → NodeState → Slot → Since → Option SlotMove
-move_on p n slot since =
-    if release_due slot since then Some slot_moves.Release
-    else if report_due slot slot.seen then Some slot_moves.Report
-    else pack_or_begin n slot (pack_due p n slot slot.seen)
-
-abbrev pub first_move : Option SlotMove → Option SlotMove → Option SlotMove
-first_move (Some m) n = Some m
-first_move None n = n
-
--- the first move that is due: none of a node that is spent
-abbrev pub move_of : Plan → Round → NodeState → Slot → Option ℕ → Since → Option SlotMove
-move_of p round n slot back since =
-    if is_none n.body then None
-    else if not (same_round slot.seen round) then Some slot_moves.See
-    else first_move (back_due slot back) (if rests n then None else move_on p n slot since)
-
 -- ---- what a slot would do next
 
 abbrev pub run_of : Option ElementId → Option Doing
@@ -156,37 +76,30 @@ run_of None = None
 run_of (Some e) = Some (doings.Run e)
 
 -- it runs the least element that can run, below its top; nothing while it has to go back
-abbrev pub run_due : Plan → NodeState → Slot → Option ℕ → Option Doing
-run_due p n slot None = run_of (first_running p slot.top n)
-run_due p n slot (Some base) = None
+abbrev pub run_due : Plan → NodeState → Standing → Option ℕ → Option Doing
+run_due p n t None = run_of (first_running p t.top n)
+run_due p n t (Some base) = None
 
 abbrev pub move_or_run : Option SlotMove → Option Doing → Option Doing
-move_or_run (Some m) run = Some (doings.Move m)
+move_or_run (Some m) run = Some doings.Move
 move_or_run None run = run
 
 -- it moves before it runs
-abbrev pub idle_doing : Plan → Round → NodeState → Slot → Option ℕ → Since → Option Doing
-idle_doing p round n slot back since = move_or_run (move_of p round n slot back since) (run_due p n slot back)
+abbrev pub idle_doing : Plan → Round → NodeState → Standing → Option ℕ → Since → Option Doing
+idle_doing p round n t back since = move_or_run (move_of p round n t back since) (run_due p n t back)
 
 -- it hears before all else
-abbrev pub doing_of : Plan → Round → Slot → NodeState → List Letter → Option ℕ → Since → Option Doing
-doing_of p round slot n [] back since = idle_doing p round n slot back since
-doing_of p round slot n (letter ∷ more) back since = Some doings.Hear
+abbrev pub doing_of : Plan → Round → Standing → NodeState → List Letter → Option ℕ → Since → Option Doing
+doing_of p round t n [] back since = idle_doing p round n t back since
+doing_of p round t n (letter ∷ more) back since = Some doings.Hear
 
--- of each of a node's objects whether it can run below a top
-abbrev pub ables : Plan → ℕ → NodeState → List Bool
-ables p top n = map (can_run p top) (objects_of n.body)
+-- how a slot stands in an agreement
+abbrev pub stand : CutState → SlotId → Standing
+stand cut slot = standing_of (slot_of cut slot)
 
 -- a slot with these parts, in this agreement
 abbrev pub renewed : Plan → CutState → NodeState → List Letter → Option ℕ → Since → SlotState
-renewed p cut n box back since = record {
-  node = n;
-  box = box;
-  back = back;
-  since = since;
-  able = ables p (slot_of cut n.slot).top n;
-  doing = doing_of p cut.round (slot_of cut n.slot) n box back since;
-}
+renewed p cut n box back since = record { node = n; box = box; back = back; since = since; doing = doing_of p cut.round (stand cut n.slot) n box back since }
 
 -- the same slot, in another agreement
 abbrev pub again : Plan → CutState → SlotState → SlotState
@@ -212,7 +125,7 @@ with_slot nodes all slot s = slice_set all (number_of nodes slot) s
 
 -- a letter comes at the back, so the slot hears next
 abbrev pub slot_put : Letter → SlotState → SlotState
-slot_put letter x = record { node = x.node; box = x.box ++ letter ∷ []; back = x.back; since = x.since; able = x.able; doing = Some doings.Hear }
+slot_put letter x = record { node = x.node; box = x.box ++ letter ∷ []; back = x.back; since = x.since; doing = Some doings.Hear }
 
 abbrev pub put_by : ℕ → SlotId → Letter → Posts → Option SlotState → Posts
 put_by nodes slot letter b None = b
@@ -287,7 +200,7 @@ abbrev pub acted : Plan → CutState → Outcome → List Letter → Option ℕ 
 acted p cut o box back since = record { slot = renewed p cut o.node box back since; cut = cut; out = o.out }
 
 abbrev pub slot_ran_by : Setting → CutState → ElementId → SlotState → Option ℕ → Acted
-slot_ran_by s cut e x None = acted s.plan cut (outcome_of (node_ran s.plan s.script s.place (slot_of cut x.node.slot).top e.0 x.node)) x.box x.back x.since
+slot_ran_by s cut e x None = acted s.plan cut (outcome_of (node_ran s.plan s.script s.place (stand cut x.node.slot).top e.0 x.node)) x.box x.back x.since
 slot_ran_by s cut e x (Some base) = record { slot = x; cut = cut; out = [] }
 
 -- it runs an element, below its top; nothing while it has to go back
@@ -312,11 +225,17 @@ slot_moved_by s cut x (Some (slot_moves.Pack k)) = acted s.plan (packed_by x.nod
 slot_moved_by s cut x (Some (slot_moves.Begin k)) = moved_in s.plan (begun_by x.node.slot k cut) x x.back
 
 abbrev pub slot_move : Plan → CutState → SlotState → Option SlotMove
-slot_move p cut x = move_of p cut.round x.node (slot_of cut x.node.slot) x.back x.since
+slot_move p cut x = move_of p cut.round x.node (stand cut x.node.slot) x.back x.since
 
 -- it makes the first move that is due
 abbrev pub slot_moved : Setting → CutState → SlotState → Acted
 slot_moved s cut x = slot_moved_by s cut x (slot_move s.plan cut x)
+
+-- what it makes of itself, of the agreement, and what it sends
+abbrev pub does : Setting → CutState → Doing → SlotState → Acted
+does s cut doings.Hear x = slot_heard s cut x x.box
+does s cut doings.Move x = slot_moved s cut x
+does s cut (doings.Run e) x = slot_ran s cut e x
 
 abbrev pub by_slot : Setting → SlotId → WorldState → (SlotState → Acted) → Option SlotState → WorldState
 by_slot s slot w acts None = w
@@ -368,12 +287,19 @@ did_in s h w = after_conductor s h w.posts.desk w
 abbrev pub sight_in : CutState → SlotId → Sight
 sight_in cut slot = sight_of cut.round (slot_of cut slot)
 
--- what the agreement answers
+-- The conductor sees a slot: its cap is noted where the round gathers. How slots stand doesn't change.
+abbrev pub with_noted : SlotId → WorldState → WorldState
+with_noted slot w = record { posts = w.posts; cut = noted slot w.cut; conductor = w.conductor; over = w.over }
+
+abbrev pub saw_in : Setting → SlotId → WorldState → WorldState
+saw_in s slot w = did_in s (conductor_did s.plan s.place (answers.Seen (sight_in w.cut slot)) w.conductor) (with_noted slot w)
+
+-- the move is made on the agreement, and the conductor hears its answer
 abbrev pub conductor_made : Setting → WorldState → CutMove → WorldState
 conductor_made s w moves.None = w
-conductor_made s w (moves.Look slot) = did_in s (conductor_did s.plan s.place (answers.Seen (sight_in w.cut slot)) w.conductor) w
+conductor_made s w (moves.Look slot) = saw_in s slot w
 conductor_made s w (moves.OpenRound floor) = did_in s (conductor_did s.plan s.place answers.Nothing w.conductor) (in_cut s.plan (opened floor w.cut) w)
-conductor_made s w (moves.Note slot) = did_in s (conductor_did s.plan s.place (answers.Seen (sight_in w.cut slot)) w.conductor) (in_cut s.plan (noted slot w.cut) w)
+conductor_made s w (moves.Note slot) = saw_in s slot w
 conductor_made s w (moves.Agree taking) = did_in s (conductor_did s.plan s.place (answers.Agreed (agreement taking w.cut)) w.conductor) (in_cut s.plan (agreed taking w.cut) w)
 conductor_made s w moves.Quiet = did_in s (conductor_did s.plan s.place answers.Nothing w.conductor) (in_cut s.plan (quieted w.cut) w)
 
@@ -385,9 +311,9 @@ conductor_moved s w move = if takes_move w.cut move then conductor_made s w move
 
 -- What an event makes of a world, enabled or not.
 unfoldable pub happens : Setting → WorldState → Event → WorldState
-happens s w (events.Run slot e) = by_slot s slot w (slot_ran s w.cut e) (slot_at s.nodes w.posts.slots slot)
-happens s w (events.Hear slot) = by_slot s slot w (λ x. slot_heard s w.cut x x.box) (slot_at s.nodes w.posts.slots slot)
-happens s w (events.Move slot) = by_slot s slot w (slot_moved s w.cut) (slot_at s.nodes w.posts.slots slot)
+happens s w (events.Run slot e) = by_slot s slot w (does s w.cut (doings.Run e)) (slot_at s.nodes w.posts.slots slot)
+happens s w (events.Hear slot) = by_slot s slot w (does s w.cut doings.Hear) (slot_at s.nodes w.posts.slots slot)
+happens s w (events.Move slot) = by_slot s slot w (does s w.cut doings.Move) (slot_at s.nodes w.posts.slots slot)
 happens s w events.ConductorHear = told_by s w w.posts.desk
 happens s w events.ConductorMove = conductor_moved s w (wanted w.conductor)
 
@@ -401,11 +327,11 @@ reached s w (event ∷ more) = reached s (happens s w event) more
 abbrev pub event_of : SlotId → Option Doing → Option Event
 event_of slot None = None
 event_of slot (Some doings.Hear) = Some (events.Hear slot)
-event_of slot (Some (doings.Move m)) = Some (events.Move slot)
+event_of slot (Some doings.Move) = Some (events.Move slot)
 event_of slot (Some (doings.Run e)) = Some (events.Run slot e)
 
 abbrev pub slot_doing : Plan → CutState → SlotState → Option Doing
-slot_doing p cut x = doing_of p cut.round (slot_of cut x.node.slot) x.node x.box x.back x.since
+slot_doing p cut x = doing_of p cut.round (stand cut x.node.slot) x.node x.box x.back x.since
 
 abbrev pub slot_event : Plan → CutState → SlotId → Option SlotState → Option Event
 slot_event p cut slot None = None
@@ -422,11 +348,13 @@ abbrev pub is_news : Option Sight → Sight → Bool
 is_news None sight = true
 is_news (Some old) sight = not (old.top == sight.top && same_cap old.cap sight.cap)
 
--- of the slots from number i on, one has news
-abbrev pub any_news : Round → List Slot → List (Option Sight) → Bool
-any_news round [] sights = false
-any_news round (slot ∷ more) [] = false
-any_news round (slot ∷ more) (sight ∷ rest) = is_news sight (sight_of round slot) || any_news round more rest
+-- of the first n slots of a replica, one has news
+abbrev pub news_below : CutState → ConductorState → ℕ → ℕ → Bool
+news_below cut c replica zero = false
+news_below cut c replica (suc j) = news_below cut c replica j || is_news (last_sight (record { replica = replica; node = j }) c) (sight_in cut (record { replica = replica; node = j }))
+
+abbrev pub any_news : CutState → ConductorState → Bool
+any_news cut c = news_below cut c 0 cut.nodes || news_below cut c 1 cut.nodes
 
 abbrev pub has_cap : Sight → Bool
 has_cap sight = is_some sight.cap
@@ -435,7 +363,7 @@ has_cap sight = is_some sight.cap
 -- reported in this round.
 abbrev pub conductor_due_by : WorldState → CutMove → Bool
 conductor_due_by w moves.None = false
-conductor_due_by w (moves.Look slot) = any_news w.cut.round w.cut.slots w.conductor.sights
+conductor_due_by w (moves.Look slot) = any_news w.cut w.conductor
 conductor_due_by w (moves.OpenRound floor) = true
 conductor_due_by w (moves.Note slot) = has_cap (sight_in w.cut slot)
 conductor_due_by w (moves.Agree taking) = true
