@@ -280,10 +280,10 @@ own_order p place n order P h = by ((stamp_in order).replica == n.slot.replica)
     by true = h
     by false = tt
 
-pub orders_rest : EarlierFlipsDecide → LoadsBack → OrdersRest
+pub orders_rest : ObjectsFollow → EarlierFlipsDecide → LaterFlipsDecideInside → LoadsBack → OrdersRest
 unfolding node_heard
-orders_rest earlier back = record {
-  restores = λ p script place n stamp k live keeps follows. own_order p place n (orders.Restore stamp k live) (RestsAt k) (restore_rests earlier back p script place n keeps stamp k live follows n.body keeps.body);
+orders_rest law earlier inside back = record {
+  restores = λ p script place n stamp k live keeps follows. own_order p place n (orders.Restore stamp k live) (RestsAt k) (restore_rests law earlier inside back p script place n keeps stamp k live follows n.body keeps.body);
   commits = λ p script place n stamp k live. own_order p place n (orders.Commit stamp k live) (RestsAt k) (commit_rests k live n.body);
-  takes = λ p script place n stamp k live piece keeps holds. own_order p place n (orders.Take stamp k live piece) (RestsAt k) (take_rests back p script place n keeps stamp k live piece (record { node = holds.1; is = holds.0 }));
+  takes = λ p script place n stamp k live piece keeps holds. own_order p place n (orders.Take stamp k live piece) (RestsAt k) (take_rests law earlier inside back p script place n keeps stamp k live piece (record { node = holds.1; is = holds.0 }));
 }

@@ -566,9 +566,15 @@ obeyed_by p place slot own body (orders.Take stamp k live piece) = quietly (take
 abbrev pub obeyed : Plan → List ℕ → SlotId → Stamp → Option Body → Order → Obeyed
 obeyed p place slot own body order = if (stamp_in order).replica == slot.replica then obeyed_by p place slot own body order else quietly None
 
+-- no order leaves all as it is
+abbrev pub obeyed_as : Plan → List ℕ → SlotId → Stamp → Option Body → Option Order → Obeyed
+obeyed_as p place slot own body None = quietly body
+obeyed_as p place slot own body (Some order) = obeyed p place slot own body order
+
 abbrev pub with_obeyed : NodeState → LastOrder → Obeyed → Outcome
 with_obeyed n last o = record { node = node_from n.slot last n.roster n.over o.body; out = o.out }
 
+-- What is no order is mail.
 abbrev pub node_heard_as : Plan → List Fault → List ℕ → Letter → NodeState → Option Order → Outcome
 node_heard_as p script place letter n None = node_heard_by p script place letter n n.body
 node_heard_as p script place letter n (Some order) = with_obeyed n (next_by n.last (Some order)) (obeyed p place n.slot n.last.stamp n.body order)

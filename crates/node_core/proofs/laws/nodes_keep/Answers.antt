@@ -20,7 +20,7 @@ pub returns-clause-hears : goal.returns-clause-hears
 returns-clause-hears c = hears_keep c.objects_follow.ensures c.totals_are_true.ensures c.nodes_make_whole.ensures c.earlier_flips_decide.ensures c.later_flips_decide.ensures.inside ?
 
 pub returns-clause-orders : goal.returns-clause-orders
-returns-clause-orders c = orders_rest c.earlier_flips_decide.ensures ?
+returns-clause-orders c = orders_rest c.objects_follow.ensures c.earlier_flips_decide.ensures c.later_flips_decide.ensures.inside ?
 
 pub returns-clause-fits : goal.returns-clause-fits
 returns-clause-fits c = keeps_fits
