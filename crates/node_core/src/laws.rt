@@ -1,9 +1,10 @@
 //! Laws of nodes: each is called where it is wanted, and its clauses are facts from there on.
 
+ghost use Rattle.node_core.specs.Costs.{FirstRuns, HearsLower, PacksLower, RunsLower, StartLeaves};
 ghost use Rattle.node_core.specs.Keeps.{HearsKeep, KeepsFits, OrdersRest, PacksKeep, RunsKeep, StartsKeep, TurnsKeep};
 ghost use Rattle.node_core.specs.Mail.{HearsMove, PacksMove, RunsMove, SharesAreSent, TotalsAreSent, TurnsMove};
 
-use chare_base::laws::sends_are_declared;
+use chare_base::laws::{first_step_is_free, sends_are_declared};
 use chare_eval::laws::{earlier_flips_decide, later_flips_decide, totals_are_true};
 use object_steps::laws::{element_stays, nodes_make_whole, objects_follow, ready_tells};
 
@@ -45,4 +46,20 @@ pub fn nodes_move()
     element_stays();
     ready_tells();
     sends_are_declared();
+}
+
+/// What a node can still do gets less with each of its events, what the letters that it sends can set off counted: with
+/// each part that it runs, once it packs, and with each letter that it hears, which weighs as much as hearing it can set
+/// off; but not with an order, which may send it back. The element that is named as the first that can run runs a part. At the opening a node has all iterations of
+/// its elements before it, and its pack.
+pub fn nodes_cost()
+    ensures first { FirstRuns }
+    ensures runs { RunsLower }
+    ensures packs { PacksLower }
+    ensures hears { HearsLower }
+    ensures start { StartLeaves }
+{
+    objects_follow();
+    ready_tells();
+    first_step_is_free();
 }
