@@ -23,3 +23,5 @@ pub mod Moving
 pub mod Heard
 pub mod Packed
 pub mod Complete
+pub mod Loads
+pub mod Loaded

@@ -6,3 +6,4 @@ pub mod Starts
 pub mod Keeps
 pub mod Mail
 pub mod Costs
+pub mod Loads

@@ -1,11 +1,13 @@
 //! Laws of nodes: each is called where it is wanted, and its clauses are facts from there on.
 
 ghost use Rattle.node_core.specs.Keeps.{HearsKeep, KeepsFits, PacksKeep, RunsKeep, StartsKeep, TurnsKeep};
+ghost use Rattle.node_core.specs.Loads.{LoadsBack, LoadsTell, RecordsLoad};
 ghost use Rattle.node_core.specs.Mail.{HearsMove, PacksMove, RunsMove, SharesAreSent, TotalsAreSent, TurnsMove};
 
 use chare_base::laws::sends_are_declared;
 use chare_eval::laws::totals_are_true;
 use object_steps::laws::{element_stays, nodes_make_whole, objects_follow, ready_tells};
+use run_ledger::laws::folds_are_lawful;
 
 /// Whatever a node's elements run, whatever true letters it hears and whenever it packs: its elements' cells and
 /// messages stay the definition's, under the flips of its stamp, and so do what it gathers of contributions and its
@@ -40,4 +42,15 @@ pub fn nodes_move()
     element_stays();
     ready_tells();
     sends_are_declared();
+}
+
+/// What is loaded from a piece are the objects whose records its bytes are, each between two iterations in a state that
+/// a job can have then; and the records of such objects are loaded as these objects. So a true piece of a node gives back
+/// its elements between two iterations of the fold.
+pub fn pieces_load()
+    ensures tells { LoadsTell }
+    ensures records { RecordsLoad }
+    ensures back { LoadsBack }
+{
+    folds_are_lawful();
 }

@@ -12,6 +12,7 @@
 
 pub mod laws;
 mod live;
+pub mod loading;
 pub mod node;
 mod object;
 mod passing;
