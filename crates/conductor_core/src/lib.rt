@@ -15,4 +15,3 @@ pub mod conductor;
 pub mod ending;
 pub mod laws;
 pub mod opening;
-pub mod fits;

@@ -30,3 +30,5 @@ pub mod Costing
 pub mod Weighing
 pub mod Lowering
 pub mod Firsts
+pub mod Loads
+pub mod Loaded

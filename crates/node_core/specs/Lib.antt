@@ -5,5 +5,6 @@ pub mod Loads
 pub mod Nodes
 pub mod Starts
 pub mod Keeps
+pub mod LoadLaws
 pub mod Mail
 pub mod Costs

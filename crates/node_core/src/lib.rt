@@ -12,7 +12,7 @@
 
 pub mod laws;
 mod live;
-mod loading;
+pub mod loading;
 pub mod node;
 mod object;
 mod orders;

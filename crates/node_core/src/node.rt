@@ -216,6 +216,11 @@ impl Node {
     /// Piece is kept where it takes the place of none, of one of an older epoch or of one at another iteration, and is
     /// then compared where the own piece at its iteration is there.
     ///
+    /// Restore, Commit, Take and Resume are orders: the last one's stamp is the node's from then on, also of a spent one.
+    /// Restore leads the elements back to the base; Commit makes the fresh piece the base, where it and all elements are
+    /// at the order's iteration; Take makes a node of the piece that it brings, also of a spent one. After each of them
+    /// the node waits, and Resume ends that. An order that it can't obey leaves it spent: it drops what it hears.
+    ///
     /// `Memory`: an allocation was refused; the node is over.
     #[tactic(auto, unfolding(crate::specs::Nodes::node_heard))]
     pub fn hear<M: Placement>(
@@ -226,6 +231,7 @@ impl Node {
         map: &M,
         letter: Letter,
     ) -> Result<Outbox, Memory>
+        requires { length (M.place map.now) ≡ elements plan.now }
         ensures ok { IfOk result (λ out. record { node = self.new; out = out } ≡ node_heard plan.now (faults_of script.now) (M.place map.now) letter self.old) }
         ensures err { OnErr result (self.new.over ≡ true) }
         ensures over { self.old.over ≡ true → IsErr result }
@@ -412,6 +418,7 @@ fn hear_body<M: Placement>(
     letter: Letter,
     body: &mut Option<Live>,
 ) -> Result<Outbox, Memory>
+    requires { length (M.place map.now) ≡ elements plan.now }
     ensures { (over : Bool) → IfOk result (λ out. record { node = node_from slot (next_order last letter) roster.now over body.new; out = out } ≡ node_heard_as plan.now (faults_of script.now) (M.place map.now) letter (node_from slot last roster.now over body.old) (order_of letter)) }
 {
     if letter.is_mail() {

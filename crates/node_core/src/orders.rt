@@ -1,11 +1,12 @@
 //! Orders: what each leaves of a slot's node.
 
-ghost use Rattle.std.specs.Prelude.{◌≡◌, None, if◌then◌else◌, IfOk};
+ghost use Rattle.std.specs.Prelude.{◌≡◌, length, None, if◌then◌else◌, IfOk};
+ghost use Rattle.chare_base.specs.Elements.{elements};
 ghost use Rattle.letter_post.specs.Orders.{order_of};
 ghost use Rattle.node_core.specs.Nodes.{begun_at, committed, committed_with, obeyed_as, quietly, restored, resumed, taken_up, with_base};
 
 use crate::live::{Live, all_at};
-use crate::loading::load_objects;
+use crate::loading::load;
 use crate::piece::{Held, send_again};
 use crate::tallies::drop_before;
 use chare_base::memory::Memory;
@@ -29,6 +30,7 @@ pub(crate) fn obey<M: Placement>(
     letter: Letter,
     body: &mut Option<Live>,
 ) -> Result<Outbox, Memory>
+    requires { length (M.place map.now) ≡ elements plan.now }
     ensures { IfOk result (λ out. record { body = body.new; out = out } ≡ obeyed_as plan.now (M.place map.now) slot own body.old (order_of letter)) }
 {
     match letter {
@@ -38,7 +40,7 @@ pub(crate) fn obey<M: Placement>(
             live,
         } => {
             let ours = stamp.replica == slot.replica;
-            *body = restore(alloc, plan, map, slot.node, ours, k, live, body.take())?;
+            *body = restore(alloc, plan, map, ours, k, live, body.take())?;
             Ok(Outbox::new(alloc))
         }
         Letter::Commit {
@@ -76,20 +78,20 @@ fn restore<M: Placement>(
     alloc: Global,
     plan: &Plan,
     map: &M,
-    node: u16,
     ours: bool,
     k: u64,
     live: LineSet,
     body: Option<Live>,
 ) -> Result<Option<Live>, Memory>
-    ensures { IfOk result (λ b. b ≡ (if ours then restored plan.now (M.place map.now) node k live body else None)) }
+    requires { length (M.place map.now) ≡ elements plan.now }
+    ensures { IfOk result (λ b. b ≡ (if ours then restored plan.now (M.place map.now) k live body else None)) }
 {
     if !ours {
         return Ok(None);
     }
     match body {
         None => Ok(None),
-        Some(b) => begin_at(alloc, plan, map, node, k, live, b.base, b.other),
+        Some(b) => begin_at(alloc, plan, map, k, live, b.base, b.other),
     }
 }
 
@@ -104,6 +106,7 @@ fn take_up<M: Placement>(
     live: LineSet,
     piece: Piece,
 ) -> Result<Option<Live>, Memory>
+    requires { length (M.place map.now) ≡ elements plan.now }
     ensures { IfOk result (λ b. b ≡ (if ours then taken_up plan.now (M.place map.now) node k live piece else None)) }
 {
     if !ours {
@@ -112,7 +115,7 @@ fn take_up<M: Placement>(
     if piece.node != node {
         return Ok(None);
     }
-    begin_at(alloc, plan, map, node, k, live, piece, None)
+    begin_at(alloc, plan, map, k, live, piece, None)
 }
 
 // A node whose elements are read out of its base, and which waits.
@@ -120,18 +123,18 @@ fn begin_at<M: Placement>(
     alloc: Global,
     plan: &Plan,
     map: &M,
-    node: u16,
     k: u64,
     live: LineSet,
     base: Piece,
     other: Option<Held>,
 ) -> Result<Option<Live>, Memory>
-    ensures { IfOk result (λ b. b ≡ begun_at plan.now (M.place map.now) node k live base other) }
+    requires { length (M.place map.now) ≡ elements plan.now }
+    ensures { IfOk result (λ b. b ≡ begun_at plan.now (M.place map.now) k live base other) }
 {
     if base.iteration != k {
         return Ok(None);
     }
-    match load_objects(alloc, plan, map, node, k, &base.bytes)? {
+    match load(alloc, plan, map, &base)? {
         None => Ok(None),
         Some(objects) => Ok(Some(Live {
             objects,
