@@ -12,8 +12,10 @@
 
 pub mod laws;
 mod live;
+pub mod loading;
 pub mod node;
 mod object;
+mod orders;
 mod passing;
 pub mod piece;
 mod roster;
