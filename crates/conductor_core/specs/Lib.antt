@@ -1,5 +1,8 @@
 pub mod Openings
-pub mod Fitting
 pub mod Endings
+pub mod Moves
+pub mod Verdicts
+pub mod Orders
 pub mod Conductors
+pub mod Made
 pub mod Tells
