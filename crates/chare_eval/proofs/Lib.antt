@@ -2,6 +2,7 @@ pub mod Appends
 pub mod Computing
 pub mod Earlier
 pub mod Frames
+pub mod Later
 pub mod Mail
 pub mod Order
 pub mod Scenes

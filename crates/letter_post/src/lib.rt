@@ -7,6 +7,7 @@
 //! one event of theirs sends.
 #![tactic(auto)]
 
+pub mod laws;
 pub mod letter;
 pub mod order;
 pub mod outbox;

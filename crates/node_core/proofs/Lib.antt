@@ -5,6 +5,8 @@ pub mod Gathering
 pub mod Totalling
 pub mod Sending
 pub mod Keeping
+pub mod Rebased
+pub mod Obeying
 pub mod Hearing
 pub mod Starting
 pub mod Counting

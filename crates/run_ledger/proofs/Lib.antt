@@ -1,7 +1,6 @@
 mod Bits
 mod Counts
 mod Bare
-mod Folds
 mod Lineages
 mod Spending
 mod Counting

@@ -11,7 +11,7 @@ use Rattle.fault_script.specs.Lines.{flips_in}
 use Rattle.run_ledger.specs.declared.line.LedgerLine.{LedgerLine}
 use Rattle.run_ledger.specs.declared.record.Record.{Record}
 use Rattle.run_ledger.specs.declared.record.Record.TheVariants.{Accept, Differ, Crash, Adopt, Done}
-use Rattle.run_ledger.specs.Later.{flips_from}
+use Rattle.chare_eval.specs.Later.{flips_from}
 use Rattle.run_ledger.specs.Lines.{fault_of}
 use Rattle.run_ledger.specs.Ledgers.{LedgerState, after, after_all, base_flips, lineage, lineage_set, opening_ledger}
 use Rattle.run_ledger.specs.Conditions.{unlawful}

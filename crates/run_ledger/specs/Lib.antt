@@ -3,6 +3,5 @@ pub mod Lines
 pub mod Ledgers
 pub mod Conditions
 pub mod Lawful
-pub mod Later
 pub mod Laws
 pub mod Apart

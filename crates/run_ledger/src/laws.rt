@@ -1,7 +1,6 @@
 //! Laws of lawful records: each is called where it is wanted, and its clauses are facts from there on.
 
 ghost use Rattle.run_ledger.specs.Apart.{OneReplicaIsApart, RecordsAreRight, StrongRecordsAreRight};
-ghost use Rattle.run_ledger.specs.Later.{LaterFlipsDecide, LaterFlipsDecideInside};
 ghost use Rattle.run_ledger.specs.Laws.{AcceptThenDoneIsLawful, AcceptsMakeTheBase, AcceptsRebase, AdoptsRebase, CrashesKeepLineages, DiffersKeepTheBase, FaultsStay, LineagesAreSets, LineagesShareTheBase, LineagesStayEmpty, StaysTidy};
 
 use chare_eval::laws::earlier_flips_decide;
@@ -15,13 +14,6 @@ pub fn accept_then_done_is_lawful()
 /// Where no fault is to come, no flip ever strikes a replica.
 pub fn lineages_stay_empty()
     ensures { LineagesStayEmpty }
-{}
-
-/// From equal states on, equal flips of that iteration and later lead to equal states, and to equal cells and messages
-/// inside each iteration. So a replica may go over to other flips below its base where they made the same base.
-pub fn later_flips_decide()
-    ensures states { LaterFlipsDecide }
-    ensures inside { LaterFlipsDecideInside }
 {}
 
 /// What lawful records keep of a ledger: live flips strike at the base or later, those of the base before it, and the

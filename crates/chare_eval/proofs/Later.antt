@@ -1,16 +1,18 @@
 -- Folds with alike flips.
 use Rattle.std.proofs.Common.{◌≡◌, ℕ, zero, suc, ◌+◌, ◌-◌, ◌≤◌, Bool, true, false, cond, List, [], ◌∷◌, None, refl, ap, sym, ◌∙◌, arith}
-use Rattle.std.specs.Prelude.{◌==◌, nat_le, slice_set}
+use Rattle.std.specs.Prelude.{◌==◌, nat_le, slice_set, unwrap_or}
 use Rattle.std.proofs.lemmas.Bool.{eqb-true, leb-false}
 use Rattle.chare_base.specs.declared.cells.Cells.{Cells}
 use Rattle.chare_base.specs.declared.plan.Plan.{Plan}
-use Rattle.chare_base.specs.Elements.{elements, parts_at, place_of, steps_in_round}
+use Rattle.chare_base.specs.Elements.{elements, parts_at, place_of, steps_in_round, steps_of}
 use Rattle.chare_base.specs.Flip.{Flip}
+use Rattle.chare_base.specs.Ports.{sending_step, total_port}
 use Rattle.chare_eval.specs.Fold.{fold, fold_from}
 use Rattle.chare_eval.specs.Inside.{cells_inside, is_done, is_number, message_to, port_array, set_runs}
+use Rattle.chare_eval.specs.Laws.{contribution_of, first_number}
 use Rattle.chare_eval.specs.Opening.{opening}
-use Rattle.chare_eval.specs.Stage.{Board, inbox, ran, round, stage, state_at, struck, with_flip}
-use Rattle.run_ledger.specs.Later.{LaterFlipsDecide, LaterFlipsDecideInside, flips_from}
+use Rattle.chare_eval.specs.Stage.{Board, contributions, inbox, ran, round, stage, state_at, step_of, struck, with_flip}
+use Rattle.chare_eval.specs.Later.{LaterFlipsDecide, LaterFlipsDecideInside, flips_from}
 
 -- ---- what strikes as an iteration begins
 
@@ -69,12 +71,16 @@ same_board p a b k n s h same start =
     same_stage p a b n (fold p a n) s (same_struck a b k n (fold p a n) h same) ∙ ap (λ xs. stage p b n xs s) (later p a b k n h same start)
 
 pub inside : LaterFlipsDecideInside
-unfolding cells_inside message_to
+unfolding cells_inside message_to contribution_of
 inside p a b k n h same start = record {
   cells = λ s done e.
       ap (λ (x : Board). set_runs p e s n (λ port. inbox p x.mail e port) (is_done done) 0 (parts_at p e s) (state_at (stage p a n (fold p a n) s).states e)) (board (steps_in_round p))
       ∙ ap (λ (x : Board). set_runs p e s n (λ port. inbox p (stage p b n (fold p b n) (steps_in_round p)).mail e port) (is_done done) 0 (parts_at p e s) (state_at x.states e)) (board s);
   messages = λ port e. ap (λ (x : Board). cond (is_number (place_of p e).array (port_array p port)) (inbox p x.mail e port) None) (board (steps_in_round p));
+  contributions = λ r e.
+      let s = unwrap_or (sending_step (total_port r) (steps_of p e)) 0 in
+      ap (λ (x : Board). first_number (contributions (step_of p s n e (λ port. inbox p x.mail e port) (state_at (stage p a n (fold p a n) s).states e)).sent r)) (board (steps_in_round p))
+      ∙ ap (λ (x : Board). first_number (contributions (step_of p s n e (λ port. inbox p (stage p b n (fold p b n) (steps_in_round p)).mail e port) (state_at x.states e)).sent r)) (board s);
 }
   where
     board : (s : ℕ) → stage p a n (fold p a n) s ≡ stage p b n (fold p b n) s

@@ -1,5 +1,5 @@
-use Rattle.run_ledger.proofs.Folds.{inside, later}
-use Rattle.run_ledger.proofs.laws.later_flips_decide.Goals as goal
+use Rattle.chare_eval.proofs.Later.{inside, later}
+use Rattle.chare_eval.proofs.laws.later_flips_decide.Goals as goal
 
 pub returns-clause-states : goal.returns-clause-states
 returns-clause-states c = later
