@@ -1,0 +1,4 @@
+pub mod OneSlot
+pub mod Lists
+pub mod Keeping
+pub mod Holding

@@ -1,0 +1,4 @@
+pub mod Rounds
+pub mod Slots
+pub mod Cuts
+pub mod Under
