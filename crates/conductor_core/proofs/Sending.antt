@@ -64,16 +64,16 @@ none_mail r j (suc i) letter h =
 pub own_mail : (r j n : ℕ) (letter : Letter) → j < n → mail_to (slot_named r j) (letters_to r letter n) ≡ letter ∷ []
 own_mail r j zero letter h = absurd (omega (arith, h))
 own_mail r j (suc i) letter h =
-    mail_both (slot_named r j) (letters_to r letter i) (record { to = boxes.Slot (slot_named r i); letter = letter } ∷ []) ∙ by (i == j) refl
+    mail_both (slot_named r j) (letters_to r letter i) (record { to = boxes.Slot (slot_named r i); letter = letter } ∷ []) ∙ by (i == j) (λ below. own_mail r j i letter below) refl
   where
-    by : (b : Bool) → (i == j) ≡ b → mail_to (slot_named r j) (letters_to r letter i) ++ mail_to (slot_named r j) (record { to = boxes.Slot (slot_named r i); letter = letter } ∷ []) ≡ letter ∷ []
-    by true is =
+    by : (b : Bool) → (j < i → mail_to (slot_named r j) (letters_to r letter i) ≡ letter ∷ []) → (i == j) ≡ b → mail_to (slot_named r j) (letters_to r letter i) ++ mail_to (slot_named r j) (record { to = boxes.Slot (slot_named r i); letter = letter } ∷ []) ≡ letter ∷ []
+    by true rest is =
         let same : i ≡ j = eqb-true i j is in
         ap (λ l. l ++ mail_to (slot_named r j) (record { to = boxes.Slot (slot_named r i); letter = letter } ∷ [])) (none_mail r j i letter (omega (arith, same)))
         ∙ one_mail r j r i letter true (ap (λ b. b && (i == j)) (is_same r) ∙ is)
-    by false is =
+    by false rest is =
         let apart : i ≢ j = λ same. absurd (let q : true ≡ false = sym ((Decides-eqb i j).1 same) ∙ is in cc) in
-        ap (λ l. l ++ mail_to (slot_named r j) (record { to = boxes.Slot (slot_named r i); letter = letter } ∷ [])) (own_mail r j i letter (omega (arith, h, apart)))
+        ap (λ l. l ++ mail_to (slot_named r j) (record { to = boxes.Slot (slot_named r i); letter = letter } ∷ [])) (rest (omega (arith, h, apart)))
         ∙ ap (λ l. (letter ∷ []) ++ l) (one_mail r j r i letter false (ap (λ b. b && (i == j)) (is_same r) ∙ is))
 
 -- letters to the slots of both replicas

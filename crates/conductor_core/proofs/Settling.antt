@@ -47,7 +47,7 @@ use Rattle.conductor_core.specs.Conductors.{ConductorState, Heard, accepted, acc
 use Rattle.conductor_core.specs.Endings.{IsLast, IsLastAt, last_states}
 use Rattle.conductor_core.specs.Moves.{slot_named}
 use Rattle.conductor_core.specs.Orders.{can_rise, raised, relined}
-use Rattle.conductor_core.specs.Tells.{AllKept, IsKeptAt, Recorded, Stamped, Tells, TellsOn, mail_to, verdict_at}
+use Rattle.conductor_core.specs.Tells.{AllKept, Ended, IsKeptAt, Recorded, Stamped, Tells, TellsOn, mail_to, verdict_at}
 use Rattle.conductor_core.specs.Verdicts.{difference_in, least_difference}
 use Rattle.conductor_core.proofs.Deciding.{LeastNamed, NamedBy, ThereAt, each_there, least_of_all, named_differs, none_differs, unnamed_equal}
 use Rattle.conductor_core.proofs.Hearing.{forgotten_kept, none_some, stays_so}
@@ -101,7 +101,7 @@ module _ (g : Grounds) (p : Plan) (script : List Fault) (o : Options) (place : L
     kept = forgotten_kept p script place c.first c.second phases.Quiet (length c.verdicts) c.pieces;
     looks = tells.looks;
     going = tells.going;
-    ended = tells.ended;
+    ended = λ some. let e : Ended p script o c = tells.ended some in record { outcome = e.outcome; ends = e.ends; bytes = e.bytes };
   }
 
   -- ---- a difference
@@ -253,7 +253,13 @@ module _ (g : Grounds) (p : Plan) (script : List Fault) (o : Options) (place : L
         let start : LedgerState = opening_ledger script o p.iterations in
         record {
           tells = record {
-            sized = on.tells.sized;
+            sized = record {
+              options = tells.sized.options;
+              noted = tells.sized.noted;
+              sights = length-replicate (length c.sights) None ∙ tells.sized.sights;
+              verdicts = tells.sized.verdicts;
+              pieces = tells.sized.pieces;
+            };
             recorded =
                 let P : List Mark → Type 0 = λ ms. Recorded p script o (after l Done) (records ++ Done ∷ []) ms in
                 subst P (sym (alone marks)) (recorded_more g.tidies g.faults p script o l records marks Done on.tells.recorded (record { lawful = done; tells = tt }));

@@ -1,22 +1,30 @@
 -- What answers make of the conductor, and what it leaves.
 use Rattle.std.proofs.Common.{◌≡◌, ℕ, zero, suc, ◌+◌, ◌<◌, ◌≤◌, Bool, true, false, cond, List, length, refl, ap, sym, ◌∙◌, arith, subst, min, Option, Some, None}
-use Rattle.std.specs.Prelude.{◌==◌, is_some, nat_lt, replicate, slice_set}
+use Rattle.std.specs.Prelude.{◌==◌, ◌&&◌, is_some, nat_lt, replicate, slice_set}
 use Rattle.std.specs.List.{list_all, list_any}
 use Rattle.std.proofs.lemmas.Bool.{ltb-true}
 use Rattle.std.proofs.lemmas.List.{length-replicate, length-set}
 use Rattle.chare_base.specs.declared.options.Options.{Options}
+use Rattle.chare_base.specs.declared.plan.ElementId.{ElementId}
 use Rattle.chare_base.specs.declared.plan.Plan.{Plan}
 use Rattle.chare_base.specs.declared.slots.SlotId.{SlotId}
 use Rattle.chare_base.specs.Elements.{elements}
 use Rattle.chare_base.specs.Placing.{Covers}
 use Rattle.fault_script.specs.declared.fault.Fault.{Fault}
 use Rattle.pup_state.specs.declared.compare.Verdict.{Verdict}
-use Rattle.run_ledger.specs.Conditions.{due}
+use Rattle.run_ledger.specs.declared.record.Record.{Record}
+use Rattle.run_ledger.specs.declared.record.Record.TheVariants.{Accept, Differ, Done}
+use Rattle.run_ledger.specs.Conditions.{due, unlawful}
+use Rattle.run_ledger.specs.Lawful.{EndsWith, Steps}
+use Rattle.run_ledger.specs.Ledgers.{LedgerState, opening_ledger}
+use Rattle.checkpoint_store.specs.Assembled.{assembled}
 use Rattle.letter_post.specs.declared.letter.Letter.{Letter}
 use Rattle.letter_post.specs.declared.letter.Letter.TheVariants as letters
 use Rattle.iteration_agree.specs.declared.round.Sight.{Sight}
+use Rattle.iteration_agree.specs.declared.round.Taking.{Taking}
 use Rattle.iteration_agree.specs.declared.round.Taking.TheVariants as takings
 use Rattle.iteration_agree.specs.Cuts.{slot_place}
+use Rattle.conductor_core.specs.declared.ending.Outcome.{Outcome}
 use Rattle.conductor_core.specs.declared.ending.Outcome.TheVariants as outcomes
 use Rattle.conductor_core.specs.declared.wants.CutAnswer.{CutAnswer}
 use Rattle.conductor_core.specs.declared.wants.CutAnswer.TheVariants as answers
@@ -24,10 +32,12 @@ use Rattle.conductor_core.specs.declared.wants.CutMove.{CutMove}
 use Rattle.conductor_core.specs.declared.wants.CutMove.TheVariants as moves
 use Rattle.conductor_core.specs.declared.wants.Phase.{Phase}
 use Rattle.conductor_core.specs.declared.wants.Phase.TheVariants as phases
-use Rattle.conductor_core.specs.Conductors.{ConductorState, conductor_did, conductor_heard, move_in, moved, nodes_of, settled, settled_in, silent, wanted}
-use Rattle.conductor_core.specs.Endings.{IsLast, TellsOutcome}
+use Rattle.conductor_core.specs.Conductors.{ConductorState, Heard, accepted_by, agreed_on, conductor_did, conductor_heard, counts, differed_by, finished_by, gone_on, move_in, moved, nodes_of, quieted, settled_by, settled_in, silent, wanted, with_mark, with_note, with_record, with_sight, with_verdict}
+use Rattle.conductor_core.specs.Endings.{IsLast, marks_from}
 use Rattle.conductor_core.specs.Moves.{agreed_move, first_unnoted, gather_move, is_noted, quiet_move, reaches, slot_after, slot_named, slot_or, unnoted_from}
 use Rattle.conductor_core.specs.Tells.{AllKept, DidTell, Ended, EndsTell, IsAgreed, IsKept, IsSlot, MoveFits, MovesFit, PhasesFollow, Tells, TellsOn, phase_after, phase_on, verdict_at}
+use Rattle.conductor_core.specs.Orders.{can_rise}
+use Rattle.conductor_core.specs.Verdicts.{least_difference}
 use Rattle.conductor_core.proofs.Hearing.{stays_so}
 use Rattle.conductor_core.proofs.Settling.{Grounds, settled_tells}
 
@@ -62,7 +72,7 @@ wanted_is c = outcomes_of c.outcome refl
     in_phase phases.Gather at going = gather (first_unnoted c.noted (nodes_of c)) refl at
     in_phase (phases.Agreed k) at going = agreed (list_all is_some c.verdicts) refl (subst IsAgreed (sym at) tt) going
 
-    outcomes_of : (found : Option Rattle.conductor_core.specs.declared.ending.Outcome.Outcome) → c.outcome ≡ found → Wanted c (cond {A = CutMove} (is_some found) moves.None (move_in c c.phase))
+    outcomes_of : (found : Option Outcome) → c.outcome ≡ found → Wanted c (cond {A = CutMove} (is_some found) moves.None (move_in c c.phase))
     outcomes_of None is = in_phase c.phase refl is
     outcomes_of (Some outcome) is = tt
 
@@ -81,11 +91,11 @@ slot_goes_on nodes slot some is = by (nat_lt (slot.node + 1) nodes) refl
 
 unnoted_is : (noted : List Bool) (nodes r j n : ℕ) (slot : SlotId) → r ≤ 1 → j + n ≤ nodes → unnoted_from noted nodes r j n ≡ Some slot → IsSlot nodes slot
 unnoted_is noted nodes r j zero slot h within is = absurd (let q : None ≡ Some slot = is in cc)
-unnoted_is noted nodes r j (suc n) slot h within is = by (is_noted noted nodes (slot_named r j)) is
+unnoted_is noted nodes r j (suc n) slot h within is = by (is_noted noted nodes (slot_named r j)) (λ rest. unnoted_is noted nodes r (suc j) n slot h (omega (arith, within)) rest) is
   where
-    by : (b : Bool) → cond b (unnoted_from noted nodes r (suc j) n) (Some (slot_named r j)) ≡ Some slot → IsSlot nodes slot
-    by true is = unnoted_is noted nodes r (suc j) n slot h (omega (arith, within)) is
-    by false is = let q : Some (slot_named r j) ≡ Some slot = is in let same : slot_named r j ≡ slot = cc in subst (IsSlot nodes) same (h, omega (arith, within))
+    by : (b : Bool) → (unnoted_from noted nodes r (suc j) n ≡ Some slot → IsSlot nodes slot) → cond b (unnoted_from noted nodes r (suc j) n) (Some (slot_named r j)) ≡ Some slot → IsSlot nodes slot
+    by true more is = more is
+    by false more is = let q : Some (slot_named r j) ≡ Some slot = is in let same : slot_named r j ≡ slot = cc in subst (IsSlot nodes) same (h, omega (arith, within))
 
 first_is : (noted : List Bool) (nodes : ℕ) (slot : SlotId) → first_unnoted noted nodes ≡ Some slot → IsSlot nodes slot
 first_is noted nodes slot is = by (unnoted_from noted nodes 0 0 nodes) refl is
@@ -110,9 +120,9 @@ moves_fit p script o place c some tells = by (wanted c) (wanted_is c)
 module _ (g : Grounds) (p : Plan) (script : List Fault) (o : Options) (place : List ℕ) (count : length place ≡ elements p) (covers : Covers place o.nodes) (c : ConductorState) (tells : Tells p script o place c) where
   -- a quiet or gathering round keeps no verdict, so it may be taken for another
   kept_on : (phase other : Phase) → (IsAgreed phase → ⊥) → c.phase ≡ phase → AllKept p script place c.first c.second other c.verdicts c.pieces
-  kept_on phases.Quiet other no at j verdict is = absurd (let P : Phase → Type 0 = λ ph. AllKept p script place c.first c.second ph c.verdicts c.pieces in (subst P at tells.kept) j verdict is)
-  kept_on phases.Gather other no at j verdict is = absurd (let P : Phase → Type 0 = λ ph. AllKept p script place c.first c.second ph c.verdicts c.pieces in (subst P at tells.kept) j verdict is)
-  kept_on (phases.Agreed k) other no at j verdict is = absurd (no tt)
+  kept_on phases.Quiet other never at j verdict is = absurd (let P : Phase → Type 0 = λ ph. AllKept p script place c.first c.second ph c.verdicts c.pieces in (subst P at tells.kept) j verdict is)
+  kept_on phases.Gather other never at j verdict is = absurd (let P : Phase → Type 0 = λ ph. AllKept p script place c.first c.second ph c.verdicts c.pieces in (subst P at tells.kept) j verdict is)
+  kept_on (phases.Agreed k) other never at j verdict is = absurd (never tt)
 
   look_tells : (slot : SlotId) (answer : CutAnswer) → slot ≡ c.next_look → TellsOn p script o place c (moved p place (moves.Look slot) answer c)
   look_tells slot answers.Nothing is = stays_so p script o place c tells
@@ -184,7 +194,7 @@ module _ (g : Grounds) (p : Plan) (script : List Fault) (o : Options) (place : L
         ended = λ some. let e : Ended p script o c = tells.ended some in record { outcome = e.outcome; ends = e.ends; bytes = e.bytes };
       }
 
-      by : (cap : Option ℕ) → TellsOn p script o place c (silent (Rattle.conductor_core.specs.Conductors.with_note slot cap (Rattle.conductor_core.specs.Conductors.with_sight slot sight c)))
+      by : (cap : Option ℕ) → TellsOn p script o place c (silent (with_note slot cap (with_sight slot sight c)))
       by None = record { tells = with c.noted tells.sized.noted; says = tt; follows = record { first = λ j h. refl; second = λ j h. refl } }
       by (Some cap) = record {
         tells = with (slice_set c.noted (slot_place (nodes_of c) slot) true) (length-set c.noted (slot_place (nodes_of c) slot) true ∙ tells.sized.noted);
@@ -192,7 +202,7 @@ module _ (g : Grounds) (p : Plan) (script : List Fault) (o : Options) (place : L
         follows = record { first = λ j h. refl; second = λ j h. refl };
       }
 
-  agree_tells : (taking : Rattle.iteration_agree.specs.declared.round.Taking.Taking) (answer : CutAnswer) → c.phase ≡ phases.Gather → TellsOn p script o place c (moved p place (moves.Agree taking) answer c)
+  agree_tells : (taking : Taking) (answer : CutAnswer) → c.phase ≡ phases.Gather → TellsOn p script o place c (moved p place (moves.Agree taking) answer c)
   agree_tells taking answers.Nothing at = stays_so p script o place c tells
   agree_tells taking (answers.Seen sight) at = stays_so p script o place c tells
   agree_tells taking (answers.Agreed None) at = stays_so p script o place c tells
@@ -235,4 +245,96 @@ did_tell g p script o place answer c count covers tells = moved_tells g p script
 -- ---- the end
 
 pub ends_tell : EndsTell
-ends_tell p script o place c ending tells outcome records marks last = ?
+ends_tell p script o place c ending tells outcome records marks last =
+    let start : LedgerState = opening_ledger script o p.iterations in
+    let e : Ended p script o c = tells.ended (ap is_some outcome) in
+    let P : List Record → Type 0 = λ rs. Steps p script o rs in
+    let Q : List Record → Type 0 = λ rs. EndsWith rs Done in
+    let R : List Record → Type 0 = λ rs. IsLast p start rs c.last in
+    let S : List ℕ → Type 0 = λ bytes. IsLast p start ending.records.items bytes in
+    let done : Some ending.outcome ≡ Some outcomes.Done = sym outcome ∙ e.outcome in
+    record {
+      lawful = record { steps = subst P (sym records) tells.recorded.steps; last = Done; ends = subst Q (sym records) e.ends; over = tt };
+      outcome = let same : ending.outcome ≡ outcomes.Done = cc in same;
+      marks = marks ∙ tells.recorded.marked ∙ ap (marks_from p start) (sym records);
+      last = subst S (sym last) (subst R (sym records) e.bytes);
+    }
+
+-- ---- phases
+
+with_note_stays : (slot : SlotId) (cap : Option ℕ) (c : ConductorState) → (with_note slot cap c).phase ≡ c.phase
+with_note_stays slot None c = refl
+with_note_stays slot (Some cap) c = refl
+
+agreed_on_stays : (k : Option ℕ) (c : ConductorState) → (agreed_on k c).phase ≡ phase_on k c.phase
+agreed_on_stays None c = refl
+agreed_on_stays (Some k) c = refl
+
+module _ (p : Plan) (place : List ℕ) where
+  finished_stays : (r : Option ℕ) (bytes : List ℕ) (h : Heard) → (finished_by r bytes h).conductor.phase ≡ h.conductor.phase
+  finished_stays None bytes h = refl
+  finished_stays (Some which) bytes h = refl
+
+  accepted_stays : (r : Option ℕ) (k : ℕ) (c : ConductorState) → (accepted_by r p place k c).conductor.phase ≡ c.phase
+  accepted_stays None k c =
+      let on : Heard = gone_on (with_mark (assembled p place c.pieces) (with_record (Accept k) c)) in
+      finished_stays (unlawful on.conductor.ledger Done) (assembled p place c.pieces) on
+  accepted_stays (Some which) k c = refl
+
+  differed_stays : (b : Bool) (r : Option ℕ) (k : ℕ) (e : ElementId) (c : ConductorState) → (cond {A = Heard} b (differed_by r k e c) (silent c)).conductor.phase ≡ c.phase
+  differed_stays true None k e c = refl
+  differed_stays true (Some which) k e c = refl
+  differed_stays false r k e c = refl
+
+  settled_stays : (f : Option ElementId) (k : ℕ) (c : ConductorState) → (settled_by p place k f c).conductor.phase ≡ c.phase
+  settled_stays None k c = accepted_stays (unlawful c.ledger (Accept k)) k c
+  settled_stays (Some e) k c = differed_stays (can_rise c.first && can_rise c.second) (unlawful c.ledger (Differ k e)) k e c
+
+  settled_quiet : (phase : Phase) (c : ConductorState) → IsAgreed phase → (settled_in p place phase c).conductor.phase ≡ phases.Quiet
+  settled_quiet phases.Quiet c agreed = absurd agreed
+  settled_quiet phases.Gather c agreed = absurd agreed
+  settled_quiet (phases.Agreed k) c agreed = settled_stays (least_difference c.verdicts) k (quieted c)
+
+  moved_phase : (move : CutMove) (answer : CutAnswer) (c : ConductorState) → Wanted c move → (moved p place move answer c).conductor.phase ≡ phase_after move answer c.phase
+  moved_phase moves.None answer c w = refl
+  moved_phase (moves.Look slot) answers.Nothing c w = refl
+  moved_phase (moves.Look slot) (answers.Seen sight) c w = refl
+  moved_phase (moves.Look slot) (answers.Agreed k) c w = refl
+  moved_phase (moves.OpenRound floor) answers.Nothing c w = refl
+  moved_phase (moves.OpenRound floor) (answers.Seen sight) c w = refl
+  moved_phase (moves.OpenRound floor) (answers.Agreed k) c w = refl
+  moved_phase (moves.Note slot) answers.Nothing c w = refl
+  moved_phase (moves.Note slot) (answers.Seen sight) c w = with_note_stays slot sight.cap (with_sight slot sight c)
+  moved_phase (moves.Note slot) (answers.Agreed k) c w = refl
+  moved_phase (moves.Agree taking) answers.Nothing c w = refl
+  moved_phase (moves.Agree taking) (answers.Seen sight) c w = refl
+  moved_phase (moves.Agree taking) (answers.Agreed k) c w = agreed_on_stays k c
+  moved_phase moves.Quiet answers.Nothing c w = settled_quiet c.phase c w.0
+  moved_phase moves.Quiet (answers.Seen sight) c w = refl
+  moved_phase moves.Quiet (answers.Agreed k) c w = refl
+
+heard_phase : (letter : Letter) (c : ConductorState) → (conductor_heard letter c).conductor.phase ≡ c.phase
+unfolding conductor_heard
+heard_phase (letters.VerdictOf first second node k verdict piece) c = by (counts first second node k c)
+  where
+    by : (b : Bool) → (cond {A = ConductorState} b (with_verdict node verdict piece c) c).phase ≡ c.phase
+    by true = refl
+    by false = refl
+heard_phase (letters.Parcel stamp entry k to payload) c = refl
+heard_phase (letters.Partial stamp r k node value) c = refl
+heard_phase (letters.Total stamp r k value) c = refl
+heard_phase (letters.Piece stamp piece) c = refl
+heard_phase (letters.Lend k fresh) c = refl
+heard_phase (letters.Take stamp k live piece) c = refl
+heard_phase (letters.Restore stamp k live) c = refl
+heard_phase (letters.Commit stamp k live) c = refl
+heard_phase (letters.Resume stamp) c = refl
+heard_phase (letters.Died stamp slot line) c = refl
+heard_phase letters.Stop c = refl
+
+did_phase : (p : Plan) (place : List ℕ) (answer : CutAnswer) (c : ConductorState) → (conductor_did p place answer c).conductor.phase ≡ phase_after (wanted c) answer c.phase
+unfolding conductor_did
+did_phase p place answer c = moved_phase p place (wanted c) answer c (wanted_is c)
+
+pub phases_follow : PhasesFollow
+phases_follow = record { did = did_phase; heard = heard_phase }

@@ -73,12 +73,9 @@ silent c = record { conductor = c; out = [] }
 abbrev pub nodes_of : ConductorState → ℕ
 nodes_of c = c.ledger.options.nodes
 
--- the lines that shape a replica, and those that aren't spent
+-- the lines that shape a replica
 abbrev pub lines_now : ℕ → ConductorState → LineSet
 lines_now replica c = record { 0 = lineage_set replica c.ledger }
-
-abbrev pub live_now : ConductorState → LineSet
-live_now c = record { 0 = live_set c.ledger }
 
 -- ---- what it wants
 
@@ -145,7 +142,7 @@ abbrev pub raised_stamps : ConductorState → ConductorState
 raised_stamps c = record c { first = raised (lines_now 0 c) c.first; second = raised (lines_now 1 c) c.second }
 
 abbrev pub sent_back : ConductorState → Heard
-sent_back c = record { conductor = unseen c; out = all_back (nodes_of c) c.ledger.base (live_now c) c.first c.second }
+sent_back c = record { conductor = unseen c; out = all_back (nodes_of c) c.ledger.base (live_set c.ledger) c.first c.second }
 
 abbrev pub gone_back : ConductorState → Heard
 gone_back c = sent_back (raised_stamps c)
@@ -164,7 +161,7 @@ abbrev pub relined_stamps : ConductorState → ConductorState
 relined_stamps c = record c { first = relined (lines_now 0 c) c.first; second = relined (lines_now 1 c) c.second }
 
 abbrev pub sent_on : ConductorState → Heard
-sent_on c = record { conductor = unseen c; out = all_taken (nodes_of c) c.ledger.base (live_now c) c.first c.second }
+sent_on c = record { conductor = unseen c; out = all_taken (nodes_of c) c.ledger.base (live_set c.ledger) c.first c.second }
 
 abbrev pub gone_on : ConductorState → Heard
 gone_on c = sent_on (relined_stamps c)

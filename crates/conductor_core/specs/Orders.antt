@@ -25,13 +25,13 @@ abbrev pub ordered : ℕ → Letter → Letter → Stamp → Stamp → List Sent
 ordered nodes a b first second =
     ((letters_to 0 a nodes ++ letters_to 1 b nodes) ++ letters_to 0 (letters.Resume first) nodes) ++ letters_to 1 (letters.Resume second) nodes
 
--- all slots go back to the base
-abbrev pub all_back : ℕ → ℕ → LineSet → Stamp → Stamp → List Sent
-all_back nodes base live first second = ordered nodes (letters.Restore first base live) (letters.Restore second base live) first second
+-- all slots go back to the base, where this is the set of live lines
+abbrev pub all_back : ℕ → ℕ → ℕ → Stamp → Stamp → List Sent
+all_back nodes base live first second = ordered nodes (letters.Restore first base (record { 0 = live })) (letters.Restore second base (record { 0 = live })) first second
 
 -- all slots take their fresh piece as the base
-abbrev pub all_taken : ℕ → ℕ → LineSet → Stamp → Stamp → List Sent
-all_taken nodes base live first second = ordered nodes (letters.Commit first base live) (letters.Commit second base live) first second
+abbrev pub all_taken : ℕ → ℕ → ℕ → Stamp → Stamp → List Sent
+all_taken nodes base live first second = ordered nodes (letters.Commit first base (record { 0 = live })) (letters.Commit second base (record { 0 = live })) first second
 
 -- ---- stamps
 

@@ -1,12 +1,12 @@
 //! The conductor.
 
-ghost use Rattle.std.specs.Prelude.{◌≡◌, ◌×◌, ◌++◌, ◌∷◌, ◌&&◌, [], length, replicate, slice_index_or, slice_set, IfOk, IfSome, OnOk, OnErr, IsErr, IsNone, IsTrue, is_none, is_some, Some, None, true, false, ◌↔◌};
+ghost use Rattle.std.specs.Prelude.{◌≡◌, ◌++◌, ◌∷◌, ◌&&◌, [], length, replicate, slice_index_or, slice_set, IfOk, IfSome, OnOk, OnErr, IsErr, IsNone, IsTrue, is_none, is_some, Some, None, true, false, ◌↔◌};
 ghost use Rattle.chare_base.specs.Elements.{elements};
 ghost use Rattle.fault_script.specs.Lines.{faults_of};
 ghost use Rattle.run_ledger.specs.Ledgers.{lineage_set};
 ghost use Rattle.run_ledger.specs.Conditions.{unlawful};
 ghost use Rattle.checkpoint_store.specs.Assembled.{assembled};
-ghost use Rattle.conductor_core.specs.Conductors.{Heard, IsOf, accepted, agreed_on, conductor_did, conductor_heard, counts, differed, differed_by, finished, gone_back, gone_on, is_at, look_taken, note_taken, opening_stamp, round_agreed, round_opened, settled, settled_in, sight_of, start_conductor, taken, verdict_heard, wanted, with_mark, with_note, with_record, with_sight};
+ghost use Rattle.conductor_core.specs.Conductors.{Heard, IsOf, accepted, agreed_on, conductor_did, conductor_heard, counts, differed, differed_by, finished, gone_back, gone_on, is_at, look_taken, note_taken, opening_stamp, raised_stamps, relined_stamps, round_agreed, round_opened, sent_back, sent_on, settled, settled_in, sight_of, start_conductor, taken, unseen, verdict_heard, wanted, with_mark, with_note, with_record, with_sight};
 ghost use Rattle.conductor_core.specs.Made.{made};
 ghost use Rattle.conductor_core.specs.Orders.{can_rise};
 
@@ -127,7 +127,8 @@ impl Conductor {
         ensures err { OnErr result (self.new.over ≡ true) }
         ensures over { self.old.over ≡ true → IsErr result }
     {
-        let _ = (plan, map);
+        let _ = plan;
+        let _ = map;
         if self.over {
             return Err(Memory);
         }
@@ -512,15 +513,29 @@ impl Conductor {
         }
     }
 
-    // All slots go back to the base.
+    // All slots go back to the base, under stamps of the next epoch.
     fn go_back(&mut self, alloc: Global) -> Result<Outbox, Memory>
         requires first { IsTrue (can_rise self.old.first) }
         requires second { IsTrue (can_rise self.old.second) }
         ensures { IfOk result (λ out. record { conductor = self.new; out = out } ≡ gone_back self.old) }
     {
+        self.raise_stamps();
+        self.send_back(alloc)
+    }
+
+    fn raise_stamps(&mut self)
+        requires first { IsTrue (can_rise self.old.first) }
+        requires second { IsTrue (can_rise self.old.second) }
+        ensures { self.new ≡ raised_stamps self.old }
+    {
         self.first = raised(self.first, self.ledger.lineage(0));
         self.second = raised(self.second, self.ledger.lineage(1));
-        self.sights.fill(None);
+    }
+
+    fn send_back(&mut self, alloc: Global) -> Result<Outbox, Memory>
+        ensures { IfOk result (λ out. record { conductor = self.new; out = out } ≡ sent_back self.old) }
+    {
+        self.forget_sights();
         order_back(
             alloc,
             self.ledger.options().nodes,
@@ -529,6 +544,12 @@ impl Conductor {
             self.first,
             self.second,
         )
+    }
+
+    fn forget_sights(&mut self)
+        ensures { self.new ≡ unseen self.old }
+    {
+        self.sights.fill(None);
     }
 
     // The replicas are equal at an iteration: the checkpoint of the pieces is the base.
@@ -544,11 +565,24 @@ impl Conductor {
         ensures { IfOk result (λ out. record { conductor = self.new; out = out } ≡ accepted plan.now (M.place map.now) k self.old) }
     {
         if make_record(&mut self.ledger, plan, Record::Accept { k })? {
-            let bytes = assemble(alloc, plan, map, &self.pieces)?;
-            self.take_base(alloc, plan, bytes)
+            self.take_pieces(alloc, plan, map)
         } else {
             Ok(Outbox::new(alloc))
         }
+    }
+
+    fn take_pieces<M: Placement>(
+        &mut self,
+        alloc: Global,
+        plan: &Plan,
+        map: &M,
+    ) -> Result<Outbox, Memory>
+        requires place { length (M.place map.now) ≡ elements plan.now }
+        requires nodes { length self.old.pieces ≡ M.count map.now }
+        ensures { IfOk result (λ out. record { conductor = self.new; out = out } ≡ taken (assembled plan.now (M.place map.now) self.old.pieces) self.old) }
+    {
+        let bytes = assemble(alloc, plan, map, &self.pieces)?;
+        self.take_base(alloc, plan, bytes)
     }
 
     // The base has these bytes.
@@ -566,9 +600,21 @@ impl Conductor {
     fn go_on(&mut self, alloc: Global) -> Result<Outbox, Memory>
         ensures { IfOk result (λ out. record { conductor = self.new; out = out } ≡ gone_on self.old) }
     {
+        self.reline_stamps();
+        self.send_on(alloc)
+    }
+
+    fn reline_stamps(&mut self)
+        ensures { self.new ≡ relined_stamps self.old }
+    {
         self.first = relined(self.first, self.ledger.lineage(0));
         self.second = relined(self.second, self.ledger.lineage(1));
-        self.sights.fill(None);
+    }
+
+    fn send_on(&mut self, alloc: Global) -> Result<Outbox, Memory>
+        ensures { IfOk result (λ out. record { conductor = self.new; out = out } ≡ sent_on self.old) }
+    {
+        self.forget_sights();
         order_on(
             alloc,
             self.ledger.options().nodes,

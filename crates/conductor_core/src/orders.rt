@@ -105,7 +105,7 @@ pub(crate) fn order_back(
     first: Stamp,
     second: Stamp,
 ) -> Result<Outbox, Memory>
-    ensures { IfOk result (λ out. out ≡ all_back nodes iteration live first second) }
+    ensures { IfOk result (λ out. out ≡ all_back nodes iteration live.0 first second) }
 {
     let a = ToAll::Restore {
         stamp: first,
@@ -129,7 +129,7 @@ pub(crate) fn order_on(
     first: Stamp,
     second: Stamp,
 ) -> Result<Outbox, Memory>
-    ensures { IfOk result (λ out. out ≡ all_taken nodes iteration live first second) }
+    ensures { IfOk result (λ out. out ≡ all_taken nodes iteration live.0 first second) }
 {
     let a = ToAll::Commit {
         stamp: first,
