@@ -1,7 +1,10 @@
 -- What a block does depends on the cells that it uses alone, and changes those alone that it writes.
 use Rattle.std.proofs.Common.{◌≡◌, ℕ, zero, suc, ◌+◌, ◌≤◌, ℤ, pos, negsuc, ◌-ℤ◌, ◌+ℤ◌, Bool, true, false, List, [], ◌∷◌, length, map, ◌++◌, refl, ap, sym, ◌∙◌, subst, arith}
-use Rattle.std.specs.Prelude.{◌||◌, if◌then◌else◌, nat_lt, slice_get, slice_set, replicate}
+use Rattle.std.specs.Prelude.{◌||◌, FitsSigned, if◌then◌else◌, nat_lt, slice_get, slice_set, replicate}
+use Rattle.std.specs.Int.{w64, int_wrap}
+use Rattle.std.specs.List.{AllByRecursion}
 use Rattle.std.proofs.lemmas.Bool.{ltb-true, or_parts}
+use Rattle.std.proofs.lemmas.Int.{SFits-int_wrap}
 use Rattle.std.proofs.lemmas.List.{length-set}
 use Rattle.chare_base.specs.declared.expression.Expr.{Expr}
 use Rattle.chare_base.specs.declared.message.EntryId.{EntryId}
@@ -39,6 +42,18 @@ set_other (x ∷ xs) zero (suc i) w h = refl
 set_other (x ∷ xs) (suc at) zero w h = refl
 set_other (x ∷ xs) (suc at) (suc i) w h = set_other xs at i w (λ e. h (ap suc e))
 
+-- ---- numbers of 64 bits
+
+-- all these numbers are of 64 bits
+abbrev pub AllFit : List ℤ → Type 0
+AllFit xs = AllByRecursion (FitsSigned w64) xs
+
+-- one of 64 bits in the place of another
+pub set_fits : (xs : List ℤ) (at : ℕ) (v : ℤ) → AllFit xs → FitsSigned w64 v → AllFit (slice_set xs at v)
+set_fits [] at v h f = tt
+set_fits (x ∷ xs) zero v h f = (f, h.1)
+set_fits (x ∷ xs) (suc at) v h f = (h.0, set_fits xs at v h.1 f)
+
 -- ---- what is said of an act
 
 -- two runs that are alike on a set
@@ -63,10 +78,15 @@ Keeps c f = (a : Run) → Kept c a (f a)
 abbrev Few : Act → Type 0
 Few f = (a : Run) → a.slip ≤ 3 → (f a).slip ≤ 3
 
+-- cells stay numbers of 64 bits
+abbrev Fits : Act → Type 0
+Fits f = (a : Run) → AllFit a.cells → AllFit (f a).cells
+
 record Acts (f : Act) (read written : Cells) : Type 0 where
   goes : (u : Set) → Within read u → Goes u f
   keeps : Keeps written f
   few : Few f
+  fits : Fits f
 
 kept : (c : Cells) (a : Run) → Kept c a a
 kept c a = record { len = refl; at = λ i e. refl }
@@ -115,8 +135,8 @@ written_goes u at w a b p = record {
       ap (λ s. if nat_lt at (length a.cells) then least_kind s w.slip else least_kind (least_kind s w.slip) 3) p.slip
       ∙ ap (λ n. if nat_lt at n then least_kind b.slip w.slip else least_kind (least_kind b.slip w.slip) 3) p.cells.len;
   cells = record {
-    len = length-set a.cells at w.value ∙ p.cells.len ∙ sym (length-set b.cells at w.value);
-    at = λ i e. get_set a.cells b.cells at i w.value p.cells.len (p.cells.at i e);
+    len = length-set a.cells at (int_wrap w64 w.value) ∙ p.cells.len ∙ sym (length-set b.cells at (int_wrap w64 w.value));
+    at = λ i e. get_set a.cells b.cells at i (int_wrap w64 w.value) p.cells.len (p.cells.at i e);
   };
 }
 
@@ -140,14 +160,14 @@ place_goes u at count (negsuc i) w a b p = slip_goes u 3 (with_slip w.slip a) (w
 
 set_keeps : (at : ℕ) (w : Computed) → Keeps (λ r. meet r (range_of at 1)) (written at w)
 set_keeps at w a = record {
-  len = length-set a.cells at w.value;
-  at = λ i e. set_other a.cells at i w.value (λ is. let c : true ≡ false = sym (met_one at) ∙ ap (λ n. meet (one n) (range_of at 1)) is ∙ e in cc);
+  len = length-set a.cells at (int_wrap w64 w.value);
+  at = λ i e. set_other a.cells at i (int_wrap w64 w.value) (λ is. let c : true ≡ false = sym (met_one at) ∙ ap (λ n. meet (one n) (range_of at 1)) is ∙ e in cc);
 }
 
 within_keeps : (at count j : ℕ) (w : Computed) (d : Bool) → nat_lt j count ≡ d → (a : Run) → Kept (λ r. meet r (range_of at count)) a (spot at j w d a)
 within_keeps at count j w true e a = record {
-  len = length-set a.cells (at + j) w.value;
-  at = λ i f. set_other a.cells (at + j) i w.value (λ is. let c : true ≡ false = sym (met at count j (ltb-true j count e)) ∙ ap (λ n. meet (one n) (range_of at count)) is ∙ f in cc);
+  len = length-set a.cells (at + j) (int_wrap w64 w.value);
+  at = λ i f. set_other a.cells (at + j) i (int_wrap w64 w.value) (λ is. let c : true ≡ false = sym (met at count j (ltb-true j count e)) ∙ ap (λ n. meet (one n) (range_of at count)) is ∙ f in cc);
 }
 within_keeps at count j w false e a = record { len = refl; at = λ i f. refl }
 
@@ -163,11 +183,23 @@ place_few : (at count : ℕ) (place : ℤ) (w : Computed) → w.slip ≤ 3 → F
 place_few at count (pos i) w h a few = within_few at i w (nat_lt i count) h a few
 place_few at count (negsuc i) w h a few = slip_few 3 three (with_slip w.slip a) (slip_few w.slip h a few)
 
+written_fits : (at : ℕ) (w : Computed) → Fits (written at w)
+written_fits at w a fit = set_fits a.cells at (int_wrap w64 w.value) fit (SFits-int_wrap w64 w.value)
+
+within_fits : (at i : ℕ) (w : Computed) (d : Bool) → Fits (spot at i w d)
+within_fits at i w true a fit = written_fits (at + i) w a fit
+within_fits at i w false a fit = fit
+
+place_fits : (at count : ℕ) (place : ℤ) (w : Computed) → Fits (written_in at count place w)
+place_fits at count (pos i) w a fit = within_fits at i w (nat_lt i count) a fit
+place_fits at count (negsuc i) w a fit = fit
+
 set_acts : (at : ℕ) (e : Expr) → Acts (λ a. written at (computed e a) a) (reads e) (λ r. meet r (range_of at 1))
 set_acts at e = record {
   goes = λ u h a b p. by_value u (written at) (computed e a) (computed e b) (computed_same u e a b p h) (written_goes u at) a b p;
   keeps = λ a. set_keeps at (computed e a) a;
   few = λ a few. written_few at (computed e a) (computed_few e a) a few;
+  fits = λ a fit. written_fits at (computed e a) a fit;
 }
 
 set_at_acts : (at count : ℕ) (place e : Expr) →
@@ -183,6 +215,7 @@ set_at_acts at count place e = record {
       let k = place_keeps at count (computed place a).value (computed e a) (with_slip (computed place a).slip a) in
       record { len = k.len; at = k.at };
   few = λ a few. place_few at count (computed place a).value (computed e a) (computed_few e a) (with_slip (computed place a).slip a) (slip_few (computed place a).slip (computed_few place a) a few);
+  fits = λ a fit. place_fits at count (computed place a).value (computed e a) (with_slip (computed place a).slip a) fit;
 }
 
 -- ---- branches and loops
@@ -199,6 +232,10 @@ branch_few : (d : Bool) (f g : Act) → Few f → Few g → Few (λ r. if d then
 branch_few true f g hf hg a few = hf a few
 branch_few false f g hf hg a few = hg a few
 
+branch_fits : (d : Bool) (f g : Act) → Fits f → Fits g → Fits (λ r. if d then f r else g r)
+branch_fits true f g hf hg a fit = hf a fit
+branch_fits false f g hf hg a fit = hg a fit
+
 if_acts : (test : Expr) (f g : Act) (rf wf rg wg : Cells) → Acts f rf wf → Acts g rg wg →
     Acts (λ a. chosen (computed test a) f g a) (λ r. reads test r || (rf r || rg r)) (λ r. wf r || wg r)
 if_acts test f g rf wf rg wg hf hg = record {
@@ -210,6 +247,7 @@ if_acts test f g rf wf rg wg hf hg = record {
       let k = branch_keeps wf wg (is_true (computed test a).value) f g hf.keeps hg.keeps (with_slip (computed test a).slip a) in
       record { len = k.len; at = k.at };
   few = λ a few. branch_few (is_true (computed test a).value) f g hf.few hg.few (with_slip (computed test a).slip a) (slip_few (computed test a).slip (computed_few test a) a few);
+  fits = λ a fit. branch_fits (is_true (computed test a).value) f g hf.fits hg.fits (with_slip (computed test a).slip a) fit;
 }
 
 turns_go : (u : Set) (n : ℕ) (i : ℤ) (slot : ℕ) (block : Act) → Goes u block → Goes u (turns n i slot block)
@@ -227,15 +265,20 @@ turns_few : (n : ℕ) (i : ℤ) (slot : ℕ) (block : Act) → Few block → Few
 turns_few zero i slot block h a few = few
 turns_few (suc n) i slot block h a few = turns_few n (i +ℤ pos 1) slot block h (block (with_loop slot i a)) (h (with_loop slot i a) few)
 
+turns_fit : (n : ℕ) (i : ℤ) (slot : ℕ) (block : Act) → Fits block → Fits (turns n i slot block)
+turns_fit zero i slot block h a fit = fit
+turns_fit (suc n) i slot block h a fit = turns_fit n (i +ℤ pos 1) slot block h (block (with_loop slot i a)) (h (with_loop slot i a) fit)
+
 for_acts : (n : ℕ) (i : ℤ) (slot : ℕ) (block : Act) (r w : Cells) → Acts block r w → Acts (turns n i slot block) r w
 for_acts n i slot block r w h = record {
   goes = λ u within. turns_go u n i slot block (h.goes u within);
   keeps = turns_keep w n i slot block h.keeps;
   few = turns_few n i slot block h.few;
+  fits = turns_fit n i slot block h.fits;
 }
 
 idle_acts : (r : Cells) → Acts (λ a. a) r (λ range. false)
-idle_acts r = record { goes = λ u h a b p. p; keeps = λ a. kept (λ range. false) a; few = λ a few. few }
+idle_acts r = record { goes = λ u h a b p. p; keeps = λ a. kept (λ range. false) a; few = λ a few. few; fits = λ a fit. fit }
 
 -- ---- statements
 
@@ -249,7 +292,7 @@ abbrev stmts : Stmts → List Stmt
 stmts xs = map (λ s. s.0) xs
 
 order_acts : (xs : Stmts) → Acts (in_order (map act (stmts xs))) (any_of (map stmt_reads (stmts xs))) (any_of (map stmt_writes (stmts xs)))
-order_acts [] = record { goes = λ u h a b p. p; keeps = λ a. kept (any_of []) a; few = λ a few. few }
+order_acts [] = record { goes = λ u h a b p. p; keeps = λ a. kept (any_of []) a; few = λ a few. few; fits = λ a fit. fit }
 order_acts (x ∷ xs) =
     let more = order_acts xs in
     record {
@@ -259,6 +302,7 @@ order_acts (x ∷ xs) =
       keeps = λ a.
           kept_both (stmt_writes x.0) (any_of (map stmt_writes (stmts xs))) a (act x.0 a) (in_order (map act (stmts xs)) (act x.0 a)) (x.1.keeps a) (more.keeps (act x.0 a));
       few = λ a few. more.few (act x.0 a) (x.1.few a few);
+      fits = λ a fit. more.fits (act x.0 a) (x.1.fits a fit);
     }
 
 abbrev StmtLayer : Stmt-F Stmt → Type 0
@@ -312,6 +356,7 @@ record Steps (f : Top → Top) (read written : Cells) : Type 0 where
   goes : (u : Set) → Within read u → (a b : Top) → Tops u a b → Tops u (f a) (f b)
   keeps : (t : Top) → Kept written t.run (f t).run
   few : (t : Top) → t.run.slip ≤ 3 → (f t).run.slip ≤ 3
+  fits : (t : Top) → AllFit t.run.cells → AllFit (f t).run.cells
 
 module _ (p : Plan) (e : ℕ) where
   act_steps : (s : Stmt) → Steps (with_act s) (stmt_reads s) (stmt_writes s)
@@ -321,6 +366,7 @@ module _ (p : Plan) (e : ℕ) where
         goes = λ u within a b q. record { run = h.goes u within a.run b.run q.run; sent = q.sent };
         keeps = λ t. h.keeps t.run;
         few = λ t few. h.few t.run few;
+        fits = λ t fit. h.fits t.run fit;
       }
 
   send_steps : (entry : EntryId) (values : List Expr) (w : Cells) →
@@ -335,6 +381,7 @@ module _ (p : Plan) (e : ℕ) where
         (ap (λ (f : Filled). f.slip) same) (ap (λ f. parcels entry (target_of p entry.0 e) (payload_of values f)) same) q;
     keeps = λ t. record { len = refl; at = λ i h. refl };
     few = λ t few. filled_few values 0 t.run (record { values = replicate 8 (pos 0); slip = t.run.slip }) few;
+    fits = λ t fit. fit;
   }
 
   contribute_steps : (reduction : ReductionId) (value : Expr) (w : Cells) →
@@ -348,6 +395,7 @@ module _ (p : Plan) (e : ℕ) where
         (ap (λ (c : Computed). Contribution reduction c.value ∷ []) same) q;
     keeps = λ t. record { len = refl; at = λ i h. refl };
     few = λ t few. least_few t.run.slip (computed value t.run).slip few (computed_few value t.run);
+    fits = λ t fit. fit;
   }
 
   by_kind : (s : Stmt) (y : Stmt-F Stmt) → stmt_reads s ≡ stmt_reads_step (map-Stmt Stmt Cells stmt_reads y) → Steps (top_step p e s y) (stmt_reads s) (stmt_writes s)
@@ -363,7 +411,7 @@ module _ (p : Plan) (e : ℕ) where
   stmt_steps s = by_kind s (out-Stmt s) (fold_out-Stmt Cells stmt_reads_step s)
 
   block_steps : (block : List Stmt) → Steps (top_acts p e block) (any_of (map stmt_reads block)) (writes block)
-  block_steps [] = record { goes = λ u h a b q. q; keeps = λ t. kept (writes []) t.run; few = λ t few. few }
+  block_steps [] = record { goes = λ u h a b q. q; keeps = λ t. kept (writes []) t.run; few = λ t few. few; fits = λ t fit. fit }
   block_steps (s ∷ more) =
       let first = stmt_steps s in
       let rest = block_steps more in
@@ -374,6 +422,7 @@ module _ (p : Plan) (e : ℕ) where
         keeps = λ t.
             kept_both (stmt_writes s) (writes more) t.run (top_step p e s (out-Stmt s) t).run (top_acts p e more (top_step p e s (out-Stmt s) t)).run (first.keeps t) (rest.keeps (top_step p e s (out-Stmt s) t));
         few = λ t few. rest.few (top_step p e s (out-Stmt s) t) (first.few t few);
+        fits = λ t fit. rest.fits (top_step p e s (out-Stmt s) t) (first.fits t fit);
       }
 
 -- ---- blocks
@@ -391,6 +440,7 @@ pub record Framed (does : List ℤ → Done) (used written : Set) : Type 0 where
   pub keeps : (xs : List ℤ) (i : ℕ) → written i ≡ false → slice_get (does xs).numbers i ≡ slice_get xs i
   pub local : (xs ys : List ℤ) → Alike used xs ys → Agree used does xs ys
   pub few : (xs : List ℤ) → (does xs).kind ≤ 3
+  pub fits : (xs : List ℤ) → AllFit xs → AllFit (does xs).numbers
 
 abbrev start : Scene → List ℤ → Top
 start scene xs = record { run = record { scene = scene; cells = xs; slip = 0 }; sent = [] }
@@ -407,4 +457,5 @@ block_framed p e block scene =
           (record { run = record { scene = refl; slip = refl; cells = alike }; sent = refl }) in
           record { kind = q.run.slip; sent = q.sent; numbers = q.run.cells };
       few = λ xs. steps.few (start scene xs) (omega arith);
+      fits = λ xs fit. steps.fits (start scene xs) fit;
     }

@@ -1,6 +1,7 @@
 pub mod Appends
 pub mod Computing
 pub mod Earlier
+pub mod Fitting
 pub mod Frames
 pub mod Later
 pub mod Mail

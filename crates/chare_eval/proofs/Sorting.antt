@@ -1,5 +1,5 @@
 -- A run that keeps its messages sorted is the plain fold.
-use Rattle.std.proofs.Common.{◌≡◌, ℕ, zero, suc, ◌+◌, ◌*◌, ◌<◌, ◌≤◌, min, ℤ, Bool, true, false, cond, List, [], ◌∷◌, ◌++◌, length, map, refl, ap, sym, ◌∙◌, subst, arith, Option, Some, None, inl, inr, append_assoc, zero-add, take, drop}
+use Rattle.std.proofs.Common.{◌≡◌, ℕ, zero, suc, ◌+◌, ◌<◌, ◌≤◌, min, ℤ, Bool, true, false, cond, List, [], ◌∷◌, ◌++◌, length, map, refl, ap, sym, ◌∙◌, subst, arith, Option, Some, None, inl, inr, append_assoc, zero-add, take, drop}
 use Rattle.std.specs.Prelude.{◌==◌, ◌&&◌, ◌≢◌, slice_get, slice_set, unwrap_or}
 use Rattle.std.specs.Option.{option_map, option_map_or}
 use Rattle.std.proofs.lemmas.Bool.Decides.{eqb_tells}
@@ -32,7 +32,7 @@ use Rattle.chare_eval.specs.declared.tables.Tally.{Tally}
 use Rattle.chare_eval.specs.Block.{Effect, block_runs, quiet}
 use Rattle.chare_eval.specs.Fold.{fold, fold_from, plain}
 use Rattle.chare_eval.specs.Opening.{opening}
-use Rattle.chare_eval.specs.Stage.{Board, Inbox, contributions, effect, found_at, given, held, inbox, members_in, parcel_held, part_runs, parts_run, ran, round, stage, state_at, step_of, total_of, total_payload, with_effect}
+use Rattle.chare_eval.specs.Stage.{Board, Inbox, contributions, effect, found_at, given, held, inbox, members_in, parcel_held, part_runs, parts_run, ran, round, stage, state_at, step_of, total_payload, with_effect}
 use Rattle.chare_eval.specs.Tables.{Sorted, Tables, add_in, all_delivered, box_of, delivered, element_runs, elements_run, emptied, kept, letter_at, no_value, put_in, round_runs, rounds_run, steps_run, tally_total, with_value}
 
 -- ---- lists

@@ -1,5 +1,5 @@
 -- The variables of loops, of which so many were written.
-use Rattle.std.proofs.Common.{◌≡◌, ℕ, zero, suc, ◌<◌, ◌≤◌, ℤ, pos, List, [], ◌∷◌, length, replicate, slice_get, slice_set, unwrap_or, refl, ap, ◌∙◌, arith}
+use Rattle.std.proofs.Common.{◌≡◌, ℕ, zero, suc, ◌<◌, ◌≤◌, ℤ, pos, List, [], ◌∷◌, length, replicate, slice_set, refl, ap, ◌∙◌, arith}
 use Rattle.chare_eval.specs.Loops.{shown}
 use Rattle.chare_eval.specs.Value.{number_at}
 

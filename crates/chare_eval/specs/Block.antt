@@ -1,5 +1,6 @@
 -- What a block does to an element, and what it sends.
 use Rattle.std.specs.Prelude.{ℕ, zero, suc, ◌+◌, ℤ, pos, negsuc, ◌+ℤ◌, ◌-ℤ◌, List, [], ◌∷◌, ◌++◌, length, replicate, slice_set, min, nat_lt, ◌&&◌, ◌==◌, if◌then◌else◌, Option, Some, None}
+use Rattle.std.specs.Int.{w64, int_wrap}
 use Rattle.chare_base.specs.declared.cells.Cells.{Cells}
 use Rattle.chare_base.specs.declared.cells.Slip.{Slip}
 use Rattle.chare_base.specs.declared.expression.Expr.{Expr}
@@ -33,11 +34,11 @@ Act = Run → Run
 abbrev pub with_slip : ℕ → Act
 with_slip kind run = record { scene = run.scene; cells = run.cells; slip = least_kind run.slip kind }
 
--- a value is written into a cell, if there is one
+-- A value is written into a cell, if there is one. A cell holds 64 bits, whatever numbers a plan has.
 abbrev pub written : ℕ → Computed → Act
 written at c run = record {
   scene = run.scene;
-  cells = slice_set run.cells at c.value;
+  cells = slice_set run.cells at (int_wrap w64 c.value);
   slip = if nat_lt at (length run.cells) then least_kind run.slip c.slip else least_kind (least_kind run.slip c.slip) write;
 }
 

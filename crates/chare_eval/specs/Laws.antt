@@ -1,7 +1,9 @@
 -- Laws of the fold, and of each element inside an iteration.
-use Rattle.std.specs.Prelude.{◌≡◌, ℕ, zero, suc, ◌<◌, ◌≤◌, ◌⊎◌, ℤ, Bool, true, false, nat_lt, if◌then◌else◌, List, [], ◌∷◌, ◌++◌, length, slice_get, slice_set, Option, Some, None, unwrap_or}
+use Rattle.std.specs.Prelude.{◌≡◌, ℕ, zero, suc, ◌<◌, ◌≤◌, ◌⊎◌, ℤ, Bool, true, false, FitsSigned, nat_lt, if◌then◌else◌, List, [], ◌∷◌, ◌++◌, length, slice_get, slice_set, Option, Some, None, unwrap_or}
+use Rattle.std.specs.Int.{w64}
 use Rattle.std.specs.List.{AllByRecursion}
 use Rattle.std.specs.Option.{option_map_or}
+use Rattle.chare_base.specs.declared.cells.Cells.{Cells}
 use Rattle.chare_base.specs.declared.cells.Slip.{Slip}
 use Rattle.chare_base.specs.declared.message.Port.TheVariants as ports
 use Rattle.chare_base.specs.declared.plan.ElementId.{ElementId}
@@ -27,6 +29,14 @@ use Rattle.chare_eval.specs.Stage.{contributions, members, part_runs, step_of, t
 -- the states of every fold have the shape of the plan's elements
 abbrev pub FoldIsShaped : Type 0
 FoldIsShaped = (p : Plan) (lines : List Flip) (n : ℕ) → Shaped p (fold p lines n)
+
+-- an element's cells are numbers of 64 bits
+abbrev pub NumbersFit : Cells → Type 0
+NumbersFit cells = AllByRecursion (FitsSigned w64) cells.numbers
+
+-- the cells of every fold are, whatever numbers the plan and the flips have
+abbrev pub FoldsFit : Type 0
+FoldsFit = (p : Plan) (lines : List Flip) (n : ℕ) → AllByRecursion NumbersFit (fold p lines n)
 
 -- a slip of one of so many steps, in one of so many iterations
 pub record Noted (steps iterations : ℕ) (slip : Slip) : Type 0 where

@@ -1,5 +1,5 @@
 -- The variables of loops, of which so many were written.
-use Rattle.std.specs.Prelude.{ℕ, zero, suc, ℤ, pos, List, [], ◌∷◌, map}
+use Rattle.std.specs.Prelude.{ℕ, zero, suc, ℤ, pos, List, [], ◌∷◌}
 
 -- the first so many of these numbers, and 0 for each of the others
 abbrev pub shown : ℕ → List ℤ → List ℤ

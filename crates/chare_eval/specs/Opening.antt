@@ -1,5 +1,6 @@
 -- The states before iteration 0.
 use Rattle.std.specs.Prelude.{ℕ, zero, suc, ℤ, List, [], ◌∷◌, ◌++◌}
+use Rattle.std.specs.Int.{w64, int_wrap}
 use Rattle.chare_base.specs.declared.cells.Cells.{Cells}
 use Rattle.chare_base.specs.declared.cells.Slip.{Slip}
 use Rattle.chare_base.specs.declared.expression.Expr.{Expr}
@@ -14,9 +15,9 @@ use Rattle.chare_eval.specs.Block.{scene_of}
 abbrev pub no_slip : Slip
 no_slip = record { kind = 0; step = 0; iteration = 0 }
 
--- the initial value of the cell of this number within its state
+-- the initial value of the cell of this number within its state, in 64 bits
 abbrev pub start_value : Scene → Expr → ℕ → ℤ
-start_value scene start which = (value_of start (record scene { which = which }) []).value
+start_value scene start which = int_wrap w64 (value_of start (record scene { which = which }) []).value
 
 -- those of so many cells, from one on
 abbrev pub cell_starts : Scene → Expr → ℕ → ℕ → List ℤ

@@ -1,5 +1,5 @@
 -- What a run of all elements keeps of the messages of an iteration, sorted by receiver and by reduction.
-use Rattle.std.specs.Prelude.{ℕ, zero, suc, ◌+◌, ℤ, List, [], ◌∷◌, ◌++◌, length, map, min, ◌==◌, if◌then◌else◌, slice_get, slice_set, Option, Some, None, unwrap_or}
+use Rattle.std.specs.Prelude.{ℕ, zero, suc, ◌+◌, ℤ, List, [], ◌∷◌, ◌++◌, map, min, ◌==◌, if◌then◌else◌, slice_get, slice_set, Option, Some, None, unwrap_or}
 use Rattle.chare_base.specs.declared.cells.Cells.{Cells}
 use Rattle.chare_base.specs.declared.message.Payload.{Payload}
 use Rattle.chare_base.specs.declared.message.Port.{Port}

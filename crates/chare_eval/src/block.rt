@@ -1,6 +1,7 @@
 //! What a block does to an element, and what it sends.
 
 ghost use Rattle.std.specs.Prelude.{◌≡◌, ◌<◌, ◌≤◌, ◌+◌, ◌/◌, ◌%◌, ◌++◌, ◌&&◌, ◌==◌, length, map, nat_lt, if◌then◌else◌, slice_set, vec_len, vec_capacity, OnOk, OnErr};
+ghost use Rattle.std.specs.Int.{w64, int_wrap};
 ghost use Rattle.chare_base.specs.Elements.{elements, place_of, cols_at, cells_of, steps_of, parts_at};
 ghost use Rattle.chare_base.specs.Entries.{target_of};
 ghost use Rattle.chare_eval.specs.declared.value.Scene.{Scene as Scenes};
@@ -347,7 +348,7 @@ fn set_loop(scene: &mut Scene, slot: u8, i: i64)
 
 // Writes a value into a cell, where there is one.
 fn write(cells: &mut Items<i64>, slip: &mut u8, at: usize, computed: Computed)
-    ensures cells { cells.new ≡ slice_set cells.old at computed.value }
+    ensures cells { cells.new ≡ slice_set cells.old at (int_wrap w64 computed.value) }
     ensures slip { slip.new ≡ (if nat_lt at (length cells.old) then least_kind slip.old computed.slip else least_kind (least_kind slip.old computed.slip) write) }
 {
     *slip = least_kind(*slip, computed.slip);

@@ -1,7 +1,7 @@
 //! Laws of the fold, and of each element inside an iteration: each is called where it is wanted, and its clause is a
 //! fact from there on.
 
-ghost use Rattle.chare_eval.specs.Laws.{FoldIsShaped, SlipsAreNoted, EarlierFlipsDecide, StrikesAreLocal, StepsFollow};
+ghost use Rattle.chare_eval.specs.Laws.{FoldIsShaped, FoldsFit, SlipsAreNoted, EarlierFlipsDecide, StrikesAreLocal, StepsFollow};
 ghost use Rattle.chare_eval.specs.Later.{LaterFlipsDecide, LaterFlipsDecideInside};
 ghost use Rattle.chare_eval.specs.Laws.{PartsRunInAnyOrder, TotalsAreTrue, StepsSend};
 
@@ -9,6 +9,12 @@ ghost use Rattle.chare_eval.specs.Laws.{PartsRunInAnyOrder, TotalsAreTrue, Steps
 /// the element's states have. So a fold's states can be packed and compared, and given as the states of a run.
 pub fn fold_is_shaped()
     ensures { FoldIsShaped }
+{}
+
+/// The cells of every fold are numbers of 64 bits, for every plan and whatever flips strike. So states of a fold are
+/// such as a checkpoint tells, where no program holds them.
+pub fn folds_fit()
+    ensures { FoldsFit }
 {}
 
 /// Between two iterations of a fold the slip of an element is none, or it has one of the three kinds and names one of

@@ -18,12 +18,11 @@ use Rattle.fault_script.specs.declared.fault.Fault.{Fault}
 use Rattle.fault_script.specs.Lines.{flips_in}
 use Rattle.pup_state.specs.declared.compare.Verdict.{Verdict}
 use Rattle.pup_state.specs.declared.compare.Verdict.TheVariants as verdicts
-use Rattle.pup_state.specs.Packs.{IsPack}
 use Rattle.pup_state.specs.Spelling.{pack}
 use Rattle.buddy_compare.specs.Laws.{AllEqual, FirstDifference, LeastOfAll}
 use Rattle.run_ledger.specs.declared.record.Record.{Record}
 use Rattle.run_ledger.specs.declared.record.Record.TheVariants.{Accept, Differ, Done}
-use Rattle.run_ledger.specs.Checkpoints.{EqualCheckpointsAreOfEqualFolds, FoldsAreLawful}
+use Rattle.run_ledger.specs.Checkpoints.{EqualCheckpointsAreOfEqualFolds}
 use Rattle.run_ledger.specs.Conditions.{unlawful}
 use Rattle.run_ledger.specs.Laws.{AcceptsMakeTheBase, AcceptsRebase, DiffersKeepTheBase, FaultsStay, LineagesAreSets, StaysTidy}
 use Rattle.run_ledger.specs.Lawful.{Allows, DiffersAt, checkpoint}
@@ -61,7 +60,6 @@ pub record Grounds : Type 0 where
   pub equal : AllEqual
   pub least : LeastOfAll
   pub make : PiecesMakeTheCheckpoint
-  pub lawful : FoldsAreLawful
   pub folds : EqualCheckpointsAreOfEqualFolds
   pub sets : LineagesAreSets
   pub differs : DiffersKeepTheBase
@@ -230,15 +228,12 @@ module _ (g : Grounds) (p : Plan) (script : List Fault) (o : Options) (place : L
         }
 
     -- the bytes of the new base are the last states', where it is at the last iteration
-    last_pack : (bytes : List ℕ) → bytes ≡ checkpoint p c.ledger 0 k → unlawful (after c.ledger (Accept k)) Done ≡ None → IsPack p bytes p.iterations (last_states p (after c.ledger (Accept k)))
-    last_pack bytes is done =
+    last_bytes : (bytes : List ℕ) → bytes ≡ checkpoint p c.ledger 0 k → unlawful (after c.ledger (Accept k)) Done ≡ None → bytes ≡ pack p p.iterations (last_states p (after c.ledger (Accept k)))
+    last_bytes bytes is done =
         let l : LedgerState = after c.ledger (Accept k) in
         let n : k ≡ p.iterations = done_base l done ∙ tells.recorded.job in
         let states : fold p (lineage 0 c.ledger) k ≡ fold p (base_flips l) k = g.earlier p (lineage 0 c.ledger) k ∙ ap (λ xs. fold p xs k) (sym (g.made c.ledger k)) in
-        record {
-          spelled = is ∙ ap (pack p k) states ∙ ap (λ i. pack p i (fold p (base_flips l) i)) n;
-          lawful = g.lawful p (base_flips l) p.iterations (omega arith);
-        }
+        is ∙ ap (pack p k) states ∙ ap (λ i. pack p i (fold p (base_flips l) i)) n
 
     done_tells : (bytes : List ℕ) → c.outcome ≡ None → ((j : ℕ) → verdict_at c.verdicts j ≡ None) → checkpoint p c.ledger 0 k ≡ checkpoint p c.ledger 1 k → bytes ≡ checkpoint p c.ledger 0 k →
         unlawful (after c.ledger (Accept k)) Done ≡ None → TellsOn p script o place c (finished_by None bytes (gone_on (with_mark bytes (with_record (Accept k) c))))
@@ -272,7 +267,7 @@ module _ (g : Grounds) (p : Plan) (script : List Fault) (o : Options) (place : L
               ends = record { before = records; all = refl };
               bytes =
                   let P : LedgerState → Type 0 = λ m. IsLastAt p m Done bytes in
-                  last_more p start records Done bytes (on.tells.going going bytes) (subst P on.tells.recorded.made (last_pack bytes is done));
+                  last_more p start records Done bytes (on.tells.going going bytes) (subst P on.tells.recorded.made (last_bytes bytes is done));
             };
           };
           says = more_say p script place (gone_on (with_mark bytes (with_record (Accept k) c))).out (nodes_of c) letters.Stop letters.Stop on.says (λ slot. tt) (λ slot. tt);

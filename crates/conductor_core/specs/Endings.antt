@@ -4,7 +4,7 @@ use Rattle.chare_base.specs.declared.cells.Cells.{Cells}
 use Rattle.chare_base.specs.declared.options.Options.{Options}
 use Rattle.chare_base.specs.declared.plan.Plan.{Plan}
 use Rattle.chare_eval.specs.Fold.{fold}
-use Rattle.pup_state.specs.Packs.{IsPack}
+use Rattle.pup_state.specs.Spelling.{pack}
 use Rattle.fault_script.specs.declared.fault.Fault.{Fault}
 use Rattle.run_ledger.specs.declared.record.Record.{Record}
 use Rattle.run_ledger.specs.declared.record.Record.TheVariants.{Accept, Differ, Crash, Mend, Adopt, Both, NoSpare, Lost, Done}
@@ -46,7 +46,7 @@ IsLastAt p l (Adopt k from) last = Unit {0}
 IsLastAt p l Both last = Unit {0}
 IsLastAt p l NoSpare last = last ≡ []
 IsLastAt p l (Lost node) last = last ≡ []
-IsLastAt p l Done last = IsPack p last p.iterations (last_states p l)
+IsLastAt p l Done last = last ≡ pack p p.iterations (last_states p l)
 
 abbrev pub IsLast : Plan → LedgerState → List Record → List ℕ → Type 0
 IsLast p l [] last = Unit {0}

@@ -14,6 +14,7 @@
 
 pub mod conductor;
 pub mod ending;
+pub mod laws;
 pub mod opening;
 mod orders;
 mod verdicts;

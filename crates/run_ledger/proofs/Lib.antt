@@ -1,5 +1,6 @@
 mod Bits
 mod Counts
+mod Checkpoints
 mod Bare
 mod Lineages
 mod Spending

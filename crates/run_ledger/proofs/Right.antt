@@ -1,5 +1,5 @@
 -- Records of a run whose script makes no wrong states that look alike.
-use Rattle.std.proofs.Common.{◌≡◌, ℕ, ◌^◌, ◌<◌, ◌≤◌, Bool, true, false, List, [], ◌∷◌, refl, ap, sym, ◌∙◌, arith, subst, Option, Some, None}
+use Rattle.std.proofs.Common.{◌≡◌, ℕ, ◌≤◌, Bool, true, false, List, [], ◌∷◌, refl, ap, sym, ◌∙◌, arith, Option, Some, None}
 use Rattle.std.specs.Prelude.{◌==◌, ◌&&◌, ◌||◌, map, nat_le, nat_lt}
 use Rattle.std.specs.List.{AllByRecursion, filter, list_any}
 use Rattle.std.proofs.lemmas.Bool.{leb-true}
@@ -8,26 +8,25 @@ use Rattle.chare_base.specs.declared.options.Options.{Options}
 use Rattle.chare_base.specs.declared.plan.Plan.{Plan}
 use Rattle.chare_base.specs.declared.slots.SlotId.{SlotId}
 use Rattle.chare_base.specs.Flip.{Flip}
-use Rattle.chare_base.proofs.Facts.{limited}
 use Rattle.chare_eval.specs.Fold.{fold, plain}
 use Rattle.chare_eval.specs.Laws.{EarlierFlipsDecide, flips_before}
-use Rattle.pup_state.specs.Laws.{Fits, OneSpelling}
 use Rattle.pup_state.specs.Spelling.{pack}
 use Rattle.fault_script.specs.declared.fault.Fault.{Fault}
 use Rattle.fault_script.specs.declared.fault.Fault.TheVariants as faults
-use Rattle.fault_script.specs.Lines.{flips_among, flips_in, selection, set_of}
+use Rattle.fault_script.specs.Lines.{flips_among, selection, set_of}
 use Rattle.run_ledger.specs.declared.line.LedgerLine.{LedgerLine}
 use Rattle.run_ledger.specs.declared.record.Record.{Record}
 use Rattle.run_ledger.specs.declared.record.Record.TheVariants.{Accept, Differ, Crash, Mend, Adopt, Both, NoSpare, Lost, Done}
+use Rattle.run_ledger.specs.Checkpoints.{EqualCheckpointsAreOfEqualFolds}
 use Rattle.run_ledger.specs.Lines.{accepted, adopted, crash_at, fault_of, flip_spent, flips_where, fresh_line, is_based, is_flip_below, is_flip_of, is_live, shapes, spent_at}
-use Rattle.run_ledger.specs.Ledgers.{LedgerState, after, base_flips, lineage, lineage_set, opening_ledger, with_crash}
+use Rattle.run_ledger.specs.Ledgers.{LedgerState, after, base_flips, lineage, opening_ledger, with_crash}
 use Rattle.run_ledger.specs.Lawful.{Allows, StepsFrom, checkpoint}
 use Rattle.run_ledger.specs.Laws.{AllSettled, Settled, Tidy}
-use Rattle.run_ledger.specs.Apart.{AdoptsUnstruck, AllRight, AllUnstruck, Apart, FoldsFit, RecordsAreRight, Right, StrongRecordsAreRight, flips_on, is_live_below}
+use Rattle.run_ledger.specs.Apart.{AdoptsUnstruck, AllRight, AllUnstruck, Apart, RecordsAreRight, Right, StrongRecordsAreRight, flips_on, is_live_below}
 use Rattle.run_ledger.proofs.Allowed.{accept_bounds, adopt_bounds, done_base, strong_adopts_none}
 use Rattle.chare_eval.proofs.Later.{later}
-use Rattle.run_ledger.proofs.Following.{faults_stay, lineages_are_sets, stays_tidy}
-use Rattle.run_ledger.proofs.Lineages.{Alike, BaseMoves, accepted_moves, adopted_moves, alike, alive, base_part, before_is, below, flips_at, from_is, later_alike, live_alike, none_selected, none_where, sets_select, twice_filtered}
+use Rattle.run_ledger.proofs.Following.{faults_stay, stays_tidy}
+use Rattle.run_ledger.proofs.Lineages.{Alike, BaseMoves, accepted_moves, adopted_moves, alike, alive, base_part, before_is, below, flips_at, from_is, later_alike, live_alike, none_where, sets_select, twice_filtered}
 use Rattle.run_ledger.proofs.Spending.{flips_less, less_based, less_faults, spent_less}
 
 -- a ledger whose base is the fault-free state
@@ -119,23 +118,8 @@ module _ (earlier : EarlierFlipsDecide) (p : Plan) (script : List Fault) where
 
   -- ---- states from checkpoints
 
-  small : (k : ℕ) → k ≤ p.iterations → k < 2 ^ 64
-  small k h = omega (arith, h, (limited p.name p.iterations p.arrays p.entries p.reductions p.answers p.limits).often.1)
-
-  lineage_fits : FoldsFit p script → (l : LedgerState) → Told p script l → (r k : ℕ) → k ≤ p.iterations → Fits p (fold p (lineage r l) k)
-  lineage_fits fit l told r k h =
-      let P : List Flip → Type 0 = λ xs. Fits p (fold p xs k) in
-      let Q : List Fault → Type 0 = λ fs. Fits p (fold p (flips_in fs (lineage_set r l)) k) in
-      subst P (lineages_are_sets r l) (subst Q (sym told.faults) (fit (lineage_set r l) k h))
-
-  plain_fits : FoldsFit p script → (k : ℕ) → k ≤ p.iterations → Fits p (plain p k)
-  plain_fits fit k h =
-      let P : List Fault → Type 0 = λ fs. Fits p (fold p (flips_among fs) k) in
-      subst P (none_selected script) (fit 0 k h)
-
-  state_told : OneSpelling → FoldsFit p script → (l : LedgerState) → Told p script l → (r k : ℕ) → k ≤ p.iterations → checkpoint p l r k ≡ pack p k (plain p k) → fold p (lineage r l) k ≡ plain p k
-  state_told spelling fit l told r k h same =
-      (spelling p k k (fold p (lineage r l) k) (plain p k) (small k h) (small k h) (lineage_fits fit l told r k h) (plain_fits fit k h) same).0
+  state_told : EqualCheckpointsAreOfEqualFolds → (l : LedgerState) (r k : ℕ) → k ≤ p.iterations → checkpoint p l r k ≡ pack p k (plain p k) → fold p (lineage r l) k ≡ plain p k
+  state_told equal l r k h same = equal p (lineage r l) [] k h same
 
   -- ---- what a record makes of the ledger
 
@@ -168,15 +152,15 @@ module _ (earlier : EarlierFlipsDecide) (p : Plan) (script : List Fault) where
       by (Some slot) tidy =
           kept_told l (with_crash line (Some slot) l) told refl refl (less_based l.lines (spent_at line l.lines) (spent_less l.lines line)) tidy (less_faults l.lines (spent_at line l.lines) (spent_less l.lines line))
 
-  after_told : OneSpelling → FoldsFit p script → Apart p script → (l : LedgerState) (r : Record) → Told p script l → Allows p l r → AdoptsUnstruck l r → Told p script (after l r)
-  after_told spelling fit apart l r told ok quiet = by r ok quiet (stays_tidy.after l r ok.lawful told.tidy) (faults_stay.after l r)
+  after_told : EqualCheckpointsAreOfEqualFolds → Apart p script → (l : LedgerState) (r : Record) → Told p script l → Allows p l r → AdoptsUnstruck l r → Told p script (after l r)
+  after_told equal apart l r told ok quiet = by r ok quiet (stays_tidy.after l r ok.lawful told.tidy) (faults_stay.after l r)
     where
       by : (r : Record) → Allows p l r → AdoptsUnstruck l r → Tidy (after l r) → map fault_of (after l r).lines ≡ map fault_of l.lines → Told p script (after l r)
       by (Accept k) ok quiet tidy faults =
           let b = accept_bounds l k ok.lawful in
           let within : k ≤ p.iterations = omega (arith, b.1, told.iterations) in
           moved_told (accepted k) l (after l (Accept k)) k 0 told (accepted_moves k) refl refl refl tidy faults
-          (state_told spelling fit l told 0 k within (agreed apart l told k (omega (arith, b.0)) within ok.tells))
+          (state_told equal l 0 k within (agreed apart l told k (omega (arith, b.0)) within ok.tells))
       by (Adopt k from) ok quiet tidy faults =
           moved_told (adopted k from) l (after l (Adopt k from)) k from told (adopted_moves k from) refl refl refl tidy faults
           (unstruck l told from k (adopt_bounds l k from ok.lawful).0 quiet)
@@ -203,10 +187,10 @@ module _ (earlier : EarlierFlipsDecide) (p : Plan) (script : List Fault) where
       let at : l.base ≡ p.iterations = done_base l ok.lawful ∙ told.iterations in
       ap (fold p (base_flips l)) (sym at) ∙ told.base ∙ ap (plain p) at
 
-  all_right : OneSpelling → FoldsFit p script → Apart p script → (l : LedgerState) (records : List Record) → Told p script l → AllUnstruck l records → StepsFrom p l records → AllRight p l records
-  all_right spelling fit apart l [] told quiet steps = tt
-  all_right spelling fit apart l (r ∷ more) told quiet steps =
-      (right_now apart l r told steps.0 quiet.0, all_right spelling fit apart (after l r) more (after_told spelling fit apart l r told steps.0 quiet.0) quiet.1 steps.1)
+  all_right : EqualCheckpointsAreOfEqualFolds → Apart p script → (l : LedgerState) (records : List Record) → Told p script l → AllUnstruck l records → StepsFrom p l records → AllRight p l records
+  all_right equal apart l [] told quiet steps = tt
+  all_right equal apart l (r ∷ more) told quiet steps =
+      (right_now apart l r told steps.0 quiet.0, all_right equal apart (after l r) more (after_told equal apart l r told steps.0 quiet.0) quiet.1 steps.1)
 
 -- ---- the start
 
@@ -214,9 +198,9 @@ fresh_based : (script : List Fault) → flips_where is_based (map fresh_line scr
 fresh_based [] = refl
 fresh_based (f ∷ more) = fresh_based more
 
-pub records_right : EarlierFlipsDecide → OneSpelling → RecordsAreRight
-records_right earlier spelling p script o records fit apart quiet steps =
-    all_right earlier p script spelling fit apart (opening_ledger script o p.iterations) records
+pub records_right : EarlierFlipsDecide → EqualCheckpointsAreOfEqualFolds → RecordsAreRight
+records_right earlier equal p script o records apart quiet steps =
+    all_right earlier p script equal apart (opening_ledger script o p.iterations) records
     (record { iterations = refl; faults = faults_stay.opening script o p.iterations; tidy = stays_tidy.opening script o p.iterations; base = ap (λ xs. fold p xs 0) (fresh_based script) }) quiet steps
 
 -- in strong mode
@@ -251,6 +235,6 @@ strong_all p l [] strong steps = tt
 strong_all p l (r ∷ more) strong steps =
     (strong_one p l r strong steps.0, strong_all p (after l r) more (ap (λ (o : Options). o.mode) (same_options l r) ∙ strong) steps.1)
 
-pub strong_right : EarlierFlipsDecide → OneSpelling → StrongRecordsAreRight
-strong_right earlier spelling p script o records strong fit apart steps =
-    records_right earlier spelling p script o records fit apart (strong_all p (opening_ledger script o p.iterations) records strong steps) steps
+pub strong_right : EarlierFlipsDecide → EqualCheckpointsAreOfEqualFolds → StrongRecordsAreRight
+strong_right earlier equal p script o records strong apart steps =
+    records_right earlier equal p script o records apart (strong_all p (opening_ledger script o p.iterations) records strong steps) steps

@@ -6,10 +6,9 @@ use Rattle.chare_base.specs.declared.options.Options.{Options}
 use Rattle.chare_base.specs.declared.plan.Plan.{Plan}
 use Rattle.chare_base.specs.Flip.{Flip}
 use Rattle.chare_eval.specs.Fold.{fold, plain}
-use Rattle.pup_state.specs.Laws.{Fits}
 use Rattle.pup_state.specs.Spelling.{pack}
 use Rattle.fault_script.specs.declared.fault.Fault.{Fault}
-use Rattle.fault_script.specs.Lines.{flips_among, flips_in, selection}
+use Rattle.fault_script.specs.Lines.{flips_among, selection}
 use Rattle.run_ledger.specs.declared.line.LedgerLine.{LedgerLine}
 use Rattle.run_ledger.specs.declared.record.Record.{Record}
 use Rattle.run_ledger.specs.declared.record.Record.TheVariants.{Accept, Differ, Crash, Mend, Adopt, Both, NoSpare, Lost, Done}
@@ -30,10 +29,6 @@ Apart p script = (a b k : ℕ) → k ≤ p.iterations →
 -- Where one of the two replicas has no flip, the checkpoint of that replica is right.
 abbrev pub OneReplicaIsApart : Type 0
 OneReplicaIsApart = (p : Plan) (script : List Fault) (clean : ℕ) → clean < 2 → list_any (is_flip_of clean) script ≡ false → Apart p script
-
--- The states that flips of the script make have numbers within their types, as those of every program have.
-abbrev pub FoldsFit : Plan → List Fault → Type 0
-FoldsFit p script = (set k : ℕ) → k ≤ p.iterations → Fits p (fold p (flips_in script set) k)
 
 -- a live flip of a replica below an iteration
 abbrev pub is_live_below : ℕ → ℕ → LedgerLine → Bool
@@ -74,10 +69,10 @@ AllRight p l (r ∷ more) = Right p l r × AllRight p (after l r) more
 -- Where no flips make equal checkpoints that are wrong, every checkpoint that a run accepts is that of the fault-free
 -- run, and so is the state at its end. A run that adopts is to adopt from unstruck replicas alone.
 abbrev pub RecordsAreRight : Type 0
-RecordsAreRight = (p : Plan) (script : List Fault) (o : Options) (records : List Record) → FoldsFit p script → Apart p script →
+RecordsAreRight = (p : Plan) (script : List Fault) (o : Options) (records : List Record) → Apart p script →
     AllUnstruck (opening_ledger script o p.iterations) records → Steps p script o records → AllRight p (opening_ledger script o p.iterations) records
 
 -- in strong mode nothing is adopted
 abbrev pub StrongRecordsAreRight : Type 0
-StrongRecordsAreRight = (p : Plan) (script : List Fault) (o : Options) (records : List Record) → o.mode ≡ Strong → FoldsFit p script → Apart p script →
+StrongRecordsAreRight = (p : Plan) (script : List Fault) (o : Options) (records : List Record) → o.mode ≡ Strong → Apart p script →
     Steps p script o records → AllRight p (opening_ledger script o p.iterations) records

@@ -1,10 +1,31 @@
 //! Laws of lawful records: each is called where it is wanted, and its clauses are facts from there on.
 
 ghost use Rattle.run_ledger.specs.Apart.{OneReplicaIsApart, RecordsAreRight, StrongRecordsAreRight};
+ghost use Rattle.run_ledger.specs.Checkpoints.{EqualCheckpointsAreOfEqualFolds, FoldsAreLawful};
 ghost use Rattle.run_ledger.specs.Laws.{AcceptThenDoneIsLawful, AcceptsMakeTheBase, AcceptsRebase, AdoptsRebase, CrashesKeepLineages, DiffersKeepTheBase, FaultsStay, LineagesAreSets, LineagesShareTheBase, LineagesStayEmpty, StaysTidy};
 
-use chare_eval::laws::earlier_flips_decide;
-use pup_state::laws::one_spelling;
+use chare_eval::laws::{earlier_flips_decide, fold_is_shaped, folds_fit, slips_are_noted};
+use pup_state::laws::{lawful_fits, one_spelling};
+
+/// The states of every fold are such as a job can have, for every plan and whatever flips strike. So their bytes are a
+/// checkpoint, and a piece of them reads back.
+pub fn folds_are_lawful()
+    ensures { FoldsAreLawful }
+{
+    fold_is_shaped();
+    folds_fit();
+    slips_are_noted();
+}
+
+/// Where the checkpoints of two folds of a plan are equal after equally many iterations, so are their states: a
+/// checkpoint tells the fold that it is of.
+pub fn equal_checkpoints_are_of_equal_folds()
+    ensures { EqualCheckpointsAreOfEqualFolds }
+{
+    folds_are_lawful();
+    lawful_fits();
+    one_spelling();
+}
 
 /// A run may take one checkpoint, at the end, where no fault is to come.
 pub fn accept_then_done_is_lawful()
@@ -47,5 +68,5 @@ pub fn records_are_right()
     ensures strong { StrongRecordsAreRight }
 {
     earlier_flips_decide();
-    one_spelling();
+    equal_checkpoints_are_of_equal_folds();
 }

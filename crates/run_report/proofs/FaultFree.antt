@@ -38,13 +38,13 @@ module _ (p : Plan) (script : List FaultLine) where
 
 pub reports_right : RecordsAreRight → ReportsAreRight
 unfolding report plain_report
-reports_right right p script o records fit apart quiet lawful =
-    ap (λ lines. first_line p o ++ lines) (right_told p script (opening_ledger (faults_of script) o p.iterations) records (right p (faults_of script) o records fit apart quiet lawful.steps))
+reports_right right p script o records apart quiet lawful =
+    ap (λ lines. first_line p o ++ lines) (right_told p script (opening_ledger (faults_of script) o p.iterations) records (right p (faults_of script) o records apart quiet lawful.steps))
 
 pub strong_right : StrongRecordsAreRight → StrongReportsAreRight
 unfolding report plain_report
-strong_right right p script o records strong fit apart lawful =
-    ap (λ lines. first_line p o ++ lines) (right_told p script (opening_ledger (faults_of script) o p.iterations) records (right p (faults_of script) o records strong fit apart lawful.steps))
+strong_right right p script o records strong apart lawful =
+    ap (λ lines. first_line p o ++ lines) (right_told p script (opening_ledger (faults_of script) o p.iterations) records (right p (faults_of script) o records strong apart lawful.steps))
 
 -- ---- no fault to come
 

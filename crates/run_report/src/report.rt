@@ -21,6 +21,7 @@ use checkpoint_store::mark::Mark;
 use conductor_core::ending::Ending;
 use fault_script::fault::Fault;
 use fault_script::script::Script;
+use run_ledger::laws::folds_are_lawful;
 use run_ledger::ledger::Ledger;
 use run_ledger::record::Record;
 use std::alloc::Global;
@@ -95,6 +96,7 @@ fn put_records(
 }
 
 // What a record tells, in the ledger before it.
+#[tactic(auto, using(crate::proofs::Lasts::last_is, crate::proofs::Lasts::last_state))]
 fn put_record(
     alloc: Global,
     out: &mut Bytes,
@@ -109,6 +111,8 @@ fn put_record(
     requires last { IsLastAt plan.now ledger.now.ledger step last.now }
     ensures { OnOk result (out.new ≡ out.old ++ record_lines plan.now script.now ledger.now.ledger step) }
 {
+    // So the last bytes can be read back.
+    folds_are_lawful();
     match step {
         Record::Accept { k } => {
             put_accepted(

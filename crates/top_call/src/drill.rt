@@ -1,20 +1,15 @@
 //! The drill: both replicas of a job in turn, on one thread.
 
-ghost use Rattle.std.specs.Prelude.{◌≡◌, [], FitsSigned, IfOk};
-ghost use Rattle.std.specs.Int.{w64};
-ghost use Rattle.std.specs.List.{AllByRecursion};
+ghost use Rattle.std.specs.Prelude.{◌≡◌, [], IfOk};
 ghost use Rattle.conductor_core.specs.Endings.{IsEnding};
 ghost use Rattle.pup_state.specs.Spelling.{pack};
 ghost use Rattle.chare_eval.specs.Fold.{plain};
 ghost use Rattle.top_call.specs.Due.{IsReport, defaults, drill_records};
-ghost use Rattle.top_call.specs.Ranges.{NumbersFit};
 
 use chare_base::bytes::Bytes;
-use chare_base::cells::Cells;
 use chare_base::memory::Memory;
 use chare_base::options::Options;
 use chare_base::plan::Plan;
-use chare_eval::laws::{fold_is_shaped, slips_are_noted};
 use chare_eval::plain::plain_run;
 use checkpoint_store::mark::{Marks, mark_of};
 use conductor_core::ending::{Ending, Outcome};
@@ -43,7 +38,6 @@ pub fn drill(alloc: Global, plan: &Plan) -> Result<Bytes, Memory>
     if !equal(&checkpoint, &other) {
         unreachable!();
     }
-    note_ranges(first.as_slice());
     let ending = agreed(alloc, plan, checkpoint)?;
     let script = Script::none(alloc);
     let text = report(alloc, plan, &script, &Options::DEFAULT, &ending)?;
@@ -53,14 +47,10 @@ pub fn drill(alloc: Global, plan: &Plan) -> Result<Bytes, Memory>
 // The ending of a run whose replicas agreed on this checkpoint after the last iteration.
 #[tactic(auto, using(crate::proofs::Endings::agreed_ends))]
 fn agreed(alloc: Global, plan: &Plan, checkpoint: Bytes) -> Result<Ending, Memory>
-    requires bytes { checkpoint ≡ pack plan.now plan.now.iterations (plain plan.now plan.now.iterations) }
-    requires numbers { NumbersFit (plain plan.now plan.now.iterations) }
+    requires { checkpoint ≡ pack plan.now plan.now.iterations (plain plan.now plan.now.iterations) }
     ensures records { IfOk result (λ e. e.records.items ≡ drill_records plan.now) }
     ensures ending { IfOk result (IsEnding plan.now [] defaults) }
 {
-    // So the checkpoint is one of a state that can be read back.
-    fold_is_shaped();
-    slips_are_noted();
     accept_then_done_is_lawful();
     let k = plan.iterations();
     let mut records = Records::new(alloc);
@@ -75,29 +65,4 @@ fn agreed(alloc: Global, plan: &Plan, checkpoint: Bytes) -> Result<Ending, Memor
         marks,
         last: checkpoint,
     })
-}
-
-// Each number of some states is one of 64 bits, which a proof sees where it is read.
-fn note_ranges(all: &[Cells])
-    ensures { NumbersFit all.now }
-{
-    if let Some((first, rest)) = all.split_first() {
-        note_range(first.numbers.as_slice());
-        note_ranges(rest);
-    }
-}
-
-fn note_range(numbers: &[i64])
-    ensures { AllByRecursion (FitsSigned w64) numbers.now }
-{
-    if let Some((first, rest)) = numbers.split_first() {
-        note(*first);
-        note_range(rest);
-    }
-}
-
-fn note(number: i64)
-    ensures { FitsSigned w64 number }
-{
-    let _ = number;
 }

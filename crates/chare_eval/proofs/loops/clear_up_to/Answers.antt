@@ -1,4 +1,4 @@
-use Rattle.std.proofs.Common.{◌≡◌, ◌+◌, pos, ◌∙◌, arith}
+use Rattle.std.proofs.Common.{◌+◌, ◌∙◌, arith}
 use Rattle.chare_eval.proofs.Variables.{cleared_at, cleared_len}
 use Rattle.chare_eval.proofs.loops.clear_up_to.Goals as goal
 

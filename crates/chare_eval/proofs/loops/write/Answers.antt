@@ -1,4 +1,4 @@
-use Rattle.std.proofs.Common.{◌≡◌, ◌+◌, ap, slice_set, ◌∙◌, arith, FitsSigned, rules, w64}
+use Rattle.std.proofs.Common.{◌+◌, ap, slice_set, ◌∙◌, arith, FitsSigned, rules, w64}
 use Rattle.std.proofs.lemmas.Int.{to_z-of_z}
 use Rattle.chare_eval.specs.Loops.{shown}
 use Rattle.chare_eval.proofs.Variables.{set_at}

@@ -1,6 +1,5 @@
 use Rattle.std.proofs.Common.{◌≡◌, ◌++◌, ◌-◌}
-use Rattle.chare_base.specs.Elements.{elements}
-use Rattle.chare_eval.specs.Opening.{opening, starts_from}
+use Rattle.chare_eval.specs.Opening.{starts_from}
 use Rattle.chare_eval.proofs.plain.start_all.Given as goal
 
 abbrev pub invariant-loop-e : goal.invariant-loop-e

@@ -10,6 +10,6 @@ returns-clause-ending c =
     let none = c.in_ok-reserve.ensures.items ∙ c.new-records.ensures in
     let one = c.push_within.ensures.items ∙ ap (λ (rs : List Record). rs ++ Accept c.iterations-k.result ∷ []) none in
     let two = c.push_within-2.ensures.items ∙ ap (λ (rs : List Record). rs ++ Done ∷ []) one ∙ ap (λ k. Accept k ∷ Done ∷ []) c.iterations-k.ensures.exact in
-    agreed_ends c.accept_then_done_is_lawful.ensures c.fold_is_shaped.ensures c.slips_are_noted.ensures c.args.plan.now
+    agreed_ends c.accept_then_done_is_lawful.ensures c.args.plan.now
     (record { outcome = _; records = c.push_within-2.new.self; marks = c.push.new.self; last = c.args.checkpoint })
-    refl two (search rules) c.requires.bytes c.requires.numbers
+    refl two (search rules) c.requires
