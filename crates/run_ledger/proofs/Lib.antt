@@ -5,7 +5,7 @@ mod Bare
 mod Lineages
 mod Spending
 mod Counting
-mod Allowed
+pub mod Allowed
 mod Following
 mod OneReplica
 mod Right

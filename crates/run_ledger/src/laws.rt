@@ -2,7 +2,7 @@
 
 ghost use Rattle.run_ledger.specs.Apart.{OneReplicaIsApart, RecordsAreRight, StrongRecordsAreRight};
 ghost use Rattle.run_ledger.specs.Checkpoints.{EqualCheckpointsAreOfEqualFolds, FoldsAreLawful};
-ghost use Rattle.run_ledger.specs.Laws.{AcceptThenDoneIsLawful, AcceptsRebase, AdoptsRebase, CrashesKeepLineages, DiffersKeepTheBase, FaultsStay, LineagesAreSets, LineagesShareTheBase, LineagesStayEmpty, StaysTidy};
+ghost use Rattle.run_ledger.specs.Laws.{AcceptThenDoneIsLawful, AcceptsMakeTheBase, AcceptsRebase, AdoptsRebase, CrashesKeepLineages, DiffersKeepTheBase, FaultsStay, LineagesAreSets, LineagesShareTheBase, LineagesStayEmpty, StaysTidy};
 
 use chare_eval::laws::{earlier_flips_decide, fold_is_shaped, folds_fit, slips_are_noted};
 use pup_state::laws::{lawful_fits, one_spelling};
@@ -50,6 +50,7 @@ pub fn lineages_follow()
     ensures bases { LineagesShareTheBase }
     ensures differs { DiffersKeepTheBase }
     ensures accepts { AcceptsRebase }
+    ensures made { AcceptsMakeTheBase }
     ensures adopts { AdoptsRebase }
     ensures crashes { CrashesKeepLineages }
 {}
