@@ -45,14 +45,16 @@ use std::alloc::Global;
 use std::fs;
 
 /// The files of cases, in the order in which they are run.
-const FILES: [&str; 7] = [
+const FILES: [&str; 9] = [
     "calls.rows",
     "jobs.rows",
     "grammar.rows",
     "rules.rows",
     "limits.rows",
+    "nodes.rows",
     "random_jobs.rows",
     "random_faults.rows",
+    "random_nodes.rows",
 ];
 
 fn main(rt: HostRuntime) -> Result<()> {

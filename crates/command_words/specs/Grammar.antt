@@ -96,7 +96,11 @@ unfoldable pub command_in : List (List ℕ) → Option Command
 command_in [] = None
 command_in (word ∷ more) = if bytes_eq word (codes "drill") then command_from (words_read (Some (record { given = none_given; waits = None })) more) else None
 
--- ---- what is known of what was given
+-- ---- what is known of a command, and of what was given
+
+-- its options are within their limits
+abbrev pub Bounded : Command → Type 0
+Bounded (Drill o schedule) = (1 ≤ o.nodes) × (o.nodes ≤ 32)
 
 abbrev pub NodesFit : Option ℕ → Type 0
 NodesFit nodes = IfSome nodes (λ n. (1 ≤ n) × (n ≤ 32))

@@ -1,7 +1,7 @@
 //! Commands, and the options that they were given.
 
 ghost use Rattle.std.specs.Prelude.{◌≡◌};
-ghost use Rattle.command_words.specs.Grammar.{NodesFit, drill_with};
+ghost use Rattle.command_words.specs.Grammar.{Bounded, NodesFit, drill_with};
 
 use chare_base::options::{Mode, Options};
 
@@ -38,7 +38,8 @@ impl Given {
     /// The drill with these options, each other one at its default.
     pub(crate) fn drill(self) -> Command
         requires { NodesFit self.nodes }
-        ensures { result ≡ drill_with self }
+        ensures exact { result ≡ drill_with self }
+        ensures bounded { Bounded result }
     {
         Command::Drill {
             options: Options {

@@ -2,7 +2,7 @@
 
 ghost use Rattle.std.specs.Prelude.{◌≡◌, map, IfSome, MatchOption, None, Some};
 ghost use Rattle.std.specs.String.{string_bytes};
-ghost use Rattle.command_words.specs.Grammar.{NodesFit, behind, command_in, given_nodes, given_schedule, given_with, next_read, option_read, word_read, words_read};
+ghost use Rattle.command_words.specs.Grammar.{Bounded, NodesFit, behind, command_in, given_nodes, given_schedule, given_with, next_read, option_read, word_read, words_read};
 
 use crate::command::{Command, Given, OptionName};
 use crate::number::number_in;
@@ -17,7 +17,8 @@ pub struct Reading {
 /// The command that the words ask for, with its options; None exactly where they are outside the command grammar.
 #[tactic(auto, unfolding(crate::specs::Grammar::command_in))]
 pub fn command_of(words: &[String]) -> Option<Command>
-    ensures { result ≡ command_in (map string_bytes words.now) }
+    ensures exact { result ≡ command_in (map string_bytes words.now) }
+    ensures bounded { IfSome result Bounded }
 {
     let (first, options) = words.split_first()?;
     if first.as_bytes() != b"drill".as_slice() {

@@ -1,6 +1,6 @@
 -- What each move changes.
-use Rattle.std.proofs.Common.{◌≡◌, ℕ, zero, suc, ◌+◌, ◌<◌, ◌≤◌, Bool, true, false, cond, List, [], ◌∷◌, length, map, refl, ap, sym, ◌∙◌, arith, subst, Option, Some, None}
-use Rattle.std.specs.Prelude.{◌==◌, ◌≢◌, max, slice_index_or, slice_set}
+use Rattle.std.proofs.Common.{◌≡◌, ℕ, ◌+◌, ◌<◌, ◌≤◌, Bool, true, false, cond, refl, ap, sym, ◌∙◌, arith, subst, Option, Some, None}
+use Rattle.std.specs.Prelude.{◌==◌, ◌≢◌}
 use Rattle.std.proofs.lemmas.Bool.{eqb-true}
 use Rattle.std.proofs.lemmas.Bool.Decides.{nat_tests}
 use Rattle.chare_base.specs.declared.slots.SlotId.{SlotId}
@@ -8,15 +8,14 @@ use Rattle.iteration_agree.specs.declared.round.Leave.{Leave}
 use Rattle.iteration_agree.specs.declared.round.Leave.TheVariants as leaves
 use Rattle.iteration_agree.specs.declared.round.Round.{Round}
 use Rattle.iteration_agree.specs.declared.round.Round.TheVariants.{Quiet, Gather, Agreed}
-use Rattle.iteration_agree.specs.declared.round.Standing.{Standing}
 use Rattle.iteration_agree.specs.declared.round.Taking.{Taking}
 use Rattle.iteration_agree.specs.declared.slot.Slot.{Slot}
 use Rattle.iteration_agree.specs.Rounds.{IsAgreed, IsGather, IsQuiet, number}
 use Rattle.iteration_agree.specs.Slots.{leave, opening_slot, slot_begun, slot_noted, slot_packed, slot_released, slot_reported, slot_rewound, slot_saw, slot_unnoted, standing_of, went}
-use Rattle.iteration_agree.specs.Cuts.{CutState, HasSlot, agreed, agreed_on, agreement, all_noted, at_place, begun_by, greatest, noted, opened, packed_by, quieted, released_by, reported_by, rewound_by, seen_by, slot_at, slot_of, slot_place}
+use Rattle.iteration_agree.specs.Cuts.{CutState, HasSlot, agreed, agreed_on, agreement, at_place, begun_by, noted, opened, packed_by, quieted, released_by, reported_by, rewound_by, seen_by, slot_at, slot_of, slot_place}
 use Rattle.iteration_agree.specs.Under.{IsCut}
 use Rattle.iteration_agree.specs.Moves.{Agrees, Allowed, Begins, Move, Notes, Opens, Packs, Quiets, Releases, Reports, Rewinds, Sees, moved, mover}
-use Rattle.iteration_agree.specs.Laws.{AgreedStands, BeginsRaise, EachSlotMoves, IsRewind, NotesLeaveTheRound, OthersStand, RoundsAreCounted, SameRound, SlotsLeaveTheRound, SlotsMove, Stands, TopsRise}
+use Rattle.iteration_agree.specs.Laws.{AgreedStands, BeginsRaise, EachSlotMoves, IsRewind, NotesLeaveTheRound, OthersStand, RoundsAreCounted, SlotsLeaveTheRound, TopsRise}
 use Rattle.iteration_agree.proofs.Lists as lists
 use Rattle.iteration_agree.proofs.Holding.{has_place}
 

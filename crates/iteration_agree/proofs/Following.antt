@@ -1,8 +1,8 @@
 -- What follows for every agreement.
-use Rattle.std.proofs.Common.{◌≡◌, ℕ, zero, suc, ◌+◌, ◌-◌, ◌<◌, ◌≤◌, Bool, true, false, cond, List, [], ◌∷◌, length, map, refl, ap, sym, ◌∙◌, arith, subst, Option, Some, None, inl, inr}
-use Rattle.std.specs.Prelude.{◌==◌, ◌&&◌, ◌||◌, ◌≢◌, ◌⊎◌, ◌↔◌, not, is_none, is_some, max, nat_le, nat_lt, unwrap_or, IfSome, IsSome, slice_index_or, slice_set}
+use Rattle.std.proofs.Common.{◌≡◌, ℕ, zero, suc, ◌-◌, ◌<◌, ◌≤◌, Bool, true, false, cond, List, [], ◌∷◌, length, refl, ap, sym, ◌∙◌, arith, subst, Option, Some, None, inl, inr}
+use Rattle.std.specs.Prelude.{◌&&◌, ◌||◌, ◌⊎◌, not, is_none, is_some, max, nat_le, nat_lt, unwrap_or, IfSome}
 use Rattle.std.specs.List.{AllByRecursion}
-use Rattle.std.proofs.lemmas.Bool.{eqb-true, leb-true, ltb-true}
+use Rattle.std.proofs.lemmas.Bool.{leb-true, ltb-true}
 use Rattle.std.proofs.lemmas.Bool.Decides.{nat_tests}
 use Rattle.chare_base.specs.declared.slots.SlotId.{SlotId}
 use Rattle.iteration_agree.specs.declared.round.Leave.{Leave}
@@ -12,7 +12,7 @@ use Rattle.iteration_agree.specs.declared.round.Round.TheVariants.{Quiet, Gather
 use Rattle.iteration_agree.specs.declared.round.Taking.{Taking}
 use Rattle.iteration_agree.specs.declared.slot.Cap.{Cap}
 use Rattle.iteration_agree.specs.declared.slot.Slot.{Slot}
-use Rattle.iteration_agree.specs.Rounds.{IsAgreed, IsGather, IsQuiet, number, takes_part}
+use Rattle.iteration_agree.specs.Rounds.{number, takes_part}
 use Rattle.iteration_agree.specs.Slots.{cap_in, leave, leave_at, limit, limit_seen, opening_slot, slot_begun, slot_noted, slot_packed, slot_released, slot_reported, slot_rewound, slot_saw, slot_unnoted, went}
 use Rattle.iteration_agree.specs.Cuts.{CutState, HasSlot, agreed, agreed_on, agreement, all_noted, at_place, begun_by, greatest, is_noted, noted, opened, opening_cut, packed_by, quieted, released_by, reported_by, rewound_by, seen_by, slot_at, slot_of, slot_place}
 use Rattle.iteration_agree.specs.Under.{IsCut, MayPack, RoundIs, SawAgreed, SeenAs, UnderSlot}

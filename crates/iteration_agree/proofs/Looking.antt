@@ -1,10 +1,10 @@
 -- Looks are few.
-use Rattle.std.proofs.Common.{◌≡◌, ℕ, zero, suc, ◌+◌, ◌<◌, ◌≤◌, Bool, true, false, List, [], ◌∷◌, ◌++◌, length, refl, ap, sym, ◌∙◌, arith, subst}
+use Rattle.std.proofs.Common.{◌≡◌, ℕ, zero, suc, ◌+◌, ◌<◌, ◌≤◌, Bool, true, false, List, [], ◌∷◌, ◌++◌, length, refl, ap, ◌∙◌, arith}
 use Rattle.std.specs.Prelude.{nat_lt, slice_set}
 use Rattle.std.proofs.lemmas.Bool.{ltb-true}
 use Rattle.std.proofs.lemmas.Bool.Decides.{nat_tests}
 use Rattle.std.proofs.lemmas.List.{length-append, length-set}
-use Rattle.iteration_agree.specs.Looks.{ChangesRaise, LooksLower, differing, before_first, looked, looks_at, looks_left, times}
+use Rattle.iteration_agree.specs.Looks.{ChangesRaise, LooksLower, differing, before_first, looks_at, looks_left, times}
 
 behind_same : (ds : List Bool) → differing (ds ++ false ∷ []) ≡ differing ds
 behind_same [] = refl

@@ -1,6 +1,6 @@
 -- How often the conductor looks at slots in turn, where it looks only while some slot's sight differs from the last one
 -- given to it.
-use Rattle.std.specs.Prelude.{◌≡◌, ℕ, zero, suc, ◌+◌, ◌<◌, ◌≤◌, Bool, true, false, List, [], ◌∷◌, ◌++◌, length, slice_set}
+use Rattle.std.specs.Prelude.{ℕ, zero, suc, ◌+◌, ◌<◌, ◌≤◌, Bool, true, false, List, [], ◌∷◌, ◌++◌, length, slice_set}
 
 abbrev pub times : ℕ → ℕ → ℕ
 times zero r = 0

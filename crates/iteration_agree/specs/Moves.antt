@@ -1,8 +1,8 @@
 -- Moves on the agreement one after another, each where it is allowed.
-use Rattle.std.specs.Prelude.{◌≡◌, ℕ, ◌<◌, ◌≤◌, List, [], ◌∷◌, Option, Some, None}
+use Rattle.std.specs.Prelude.{ℕ, ◌<◌, ◌≤◌, List, [], ◌∷◌, Option, Some, None}
 use Rattle.chare_base.specs.declared.slots.SlotId.{SlotId}
 use Rattle.iteration_agree.specs.declared.round.Taking.{Taking}
-use Rattle.iteration_agree.specs.Rounds.{IsGather, IsQuiet, NamesReplica, number}
+use Rattle.iteration_agree.specs.Rounds.{IsGather, IsQuiet, NamesReplica, last_round, most_iterations, number}
 use Rattle.iteration_agree.specs.Cuts.{CutState, HasSlot, agreed, begun_by, noted, opened, packed_by, quieted, released_by, reported_by, rewound_by, seen_by, slot_of}
 use Rattle.iteration_agree.specs.Under.{MayBegin, MayPack, MayRelease, MayReport, MayRewind}
 
@@ -39,10 +39,10 @@ Allowed c (Reports slot) = HasSlot c slot × MayReport (slot_of c slot)
 Allowed c (Packs slot) = HasSlot c slot × MayPack (slot_of c slot)
 Allowed c (Rewinds slot base) = HasSlot c slot × MayRewind base (slot_of c slot)
 Allowed c (Releases slot) = HasSlot c slot × MayRelease (slot_of c slot)
-Allowed c (Opens floor) = IsQuiet c.round × (floor ≤ 1000000)
+Allowed c (Opens floor) = IsQuiet c.round × (floor ≤ most_iterations)
 Allowed c (Notes slot) = HasSlot c slot
 Allowed c (Agrees taking) = IsGather c.round × NamesReplica taking
-Allowed c Quiets = (IsQuiet c.round → ⊥) × (number c.round < 1000129)
+Allowed c Quiets = (IsQuiet c.round → ⊥) × (number c.round < last_round)
 
 -- whose standing a move may change
 abbrev pub mover : Move → Option SlotId

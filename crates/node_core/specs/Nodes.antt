@@ -220,6 +220,11 @@ node_ran p script place limit e n = node_ran_by p script place limit e n n.body
 
 -- ---- who can run
 
+-- the element of an object, if there is one
+abbrev pub element_in : Option Progress → Option ElementId
+element_in None = None
+element_in (Some o) = Some o.element
+
 -- the first of these that can run
 abbrev pub first_running_of : Plan → ℕ → List Progress → Option ElementId
 first_running_of p limit [] = None

@@ -19,5 +19,6 @@ mod orders;
 mod passing;
 pub mod piece;
 mod roster;
+pub mod running;
 mod tallies;
 pub mod turn;

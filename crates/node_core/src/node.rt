@@ -1,6 +1,6 @@
 //! A slot's node.
 
-ghost use Rattle.std.specs.Prelude.{◌≡◌, ◌≤◌, ◌<◌, ◌*◌, ◌+◌, ◌^◌, ◌++◌, ◌&&◌, if◌then◌else◌, ℕ, Bool, true, false, length, map, is_none, IfOk, IfSome, OnErr, OnOk, IsErr};
+ghost use Rattle.std.specs.Prelude.{◌≡◌, ◌≤◌, ◌<◌, ◌*◌, ◌+◌, ◌^◌, ◌++◌, ◌&&◌, if◌then◌else◌, ℕ, Bool, true, false, length, map, is_none, IfOk, IfSome, MatchOption, None, OnErr, OnOk, IsErr, Some};
 ghost use Rattle.std.specs.List.{AllByRecursion};
 ghost use Rattle.chare_base.specs.Elements.{elements};
 ghost use Rattle.chare_base.specs.Placing.{members};
@@ -116,6 +116,18 @@ impl Node {
         ensures { result ≡ self.now.last.stamp }
     {
         self.last.stamp
+    }
+
+    pub(crate) fn live(&self) -> Option<&Live>
+        ensures { MatchOption result (self.now.body ≡ None) (λ body. self.now.body ≡ Some body.now) }
+    {
+        self.body.as_ref()
+    }
+
+    pub(crate) fn seats(&self) -> &Seats
+        ensures { result.now ≡ self.now.roster }
+    {
+        &self.roster
     }
 
     /// Whether it is spent.

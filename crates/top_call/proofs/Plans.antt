@@ -12,13 +12,16 @@ use Rattle.chare_syntax.specs.declared.fault.ParseFault.{ParseFault}
 use Rattle.chare_syntax.specs.declared.fault.ParseFault.TheVariants as parses
 use Rattle.chare_syntax.specs.declared.tree.Job.{Job as Tree}
 use Rattle.chare_syntax.specs.Text.{ReadsAs, ReadsAsNone, TextFault}
-use Rattle.run_ledger.specs.Laws.{AcceptThenDoneIsLawful}
+use Rattle.run_ledger.specs.declared.record.Record.{Record}
+use Rattle.run_ledger.specs.Lawful.{Lawful}
+use Rattle.chare_base.specs.declared.options.Options.{Options}
+use Rattle.world_core.specs.Drills.{drilled}
 use Rattle.run_report.specs.Laws.{ReportsAreFaultFree}
 use Rattle.run_report.specs.Report.{report}
 use Rattle.top_call.specs.declared.answer.Answer.{Answer}
 use Rattle.top_call.specs.declared.status.Status.{Status}
-use Rattle.top_call.specs.declared.status.Status.TheVariants.{Job}
-use Rattle.top_call.specs.Due.{Due, IsReport, defaults, drill_records, job_line}
+use Rattle.top_call.specs.declared.status.Status.TheVariants as statuses
+use Rattle.top_call.specs.Due.{DueDrill, DueRun, IsReport, job_line}
 
 -- a text that the grammar refuses
 pub not_read : (input : List ℕ) (f : ParseFault) (at code : ℕ) → TextFault input f → ((f ≡ parses.Memory → ⊥) → ReadsAsNone input) →
@@ -55,21 +58,36 @@ is_plan input text job p same reads answered = record {
   plans = answered.1 ∙ ap (λ t. plan_of t job) same;
 }
 
-pub is_report : AcceptThenDoneIsLawful → ReportsAreFaultFree → (p : Plan) (text : List ℕ) → text ≡ report p [] defaults (drill_records p) → IsReport p text
-is_report lawful fault_free p text is = record {
-  lawful = lawful p defaults;
+-- a report of a lawful ending without faults
+pub is_report : ReportsAreFaultFree → (p : Plan) (o : Options) (schedule : ℕ) (text : List ℕ) (records : List Record) → records ≡ (drilled p [] o schedule).conductor.records → Lawful p [] o records →
+    text ≡ report p [] o records → IsReport p o schedule text
+is_report fault_free p o schedule text records reached lawful is = record {
+  records = records;
+  reached = reached;
+  lawful = lawful;
   reports = is;
-  fault_free = is ∙ fault_free p defaults (drill_records p) (lawful p defaults);
+  fault_free = is ∙ fault_free p o records lawful;
 }
 
--- a report that a call gave
-pub reported : AcceptThenDoneIsLawful → ReportsAreFaultFree → (p : Plan) (r : Result (List ℕ) Memory) → IfOk r (λ text. text ≡ report p [] defaults (drill_records p)) → IfOk r (IsReport p)
-reported lawful fault_free p (Ok text) h = is_report lawful fault_free p text h
-reported lawful fault_free p (Err e) h = tt
-
 -- the answer to an input that is no job
-pub due_job : RefusedHasNone → (input : List ℕ) (at code : ℕ) → length input ≤ 262144 → ((code ≡ 0 → ⊥) → IsRefused input at code) → (r : Result Answer Memory) →
-    IfOk r (λ a. a.status ≡ Job) → IfOk r (λ a. a.text ≡ job_line (wording input at code)) → IfOk r (λ a. code ≡ 0 → ⊥) → IfOk r (λ a. Due input a.status a.text)
-due_job none input at code fits refused (Ok a) status text word =
-    subst (λ (s : Status). Due input s a.text) (sym status) (fits, none input at code (refused word), (at, code, refused word, text))
-due_job none input at code fits refused (Err e) status text word = tt
+pub due_job : RefusedHasNone → (o : Options) (schedule : ℕ) (input : List ℕ) (at code : ℕ) → length input ≤ 262144 → ((code ≡ 0 → ⊥) → IsRefused input at code) → (r : Result Answer Memory) →
+    IfOk r (λ a. a.status ≡ statuses.Job) → IfOk r (λ a. a.text ≡ job_line (wording input at code)) → IfOk r (λ a. code ≡ 0 → ⊥) → IfOk r (λ a. DueDrill o schedule input a.status a.text)
+due_job none o schedule input at code fits refused (Ok a) status text word =
+    subst (λ (s : Status). DueDrill o schedule input s a.text) (sym status) (fits, none input at code (refused word), (at, code, refused word, text))
+due_job none o schedule input at code fits refused (Err e) status text word = tt
+
+-- the answer to a job, by what is due to its plan
+pub due_run : (o : Options) (schedule : ℕ) (input : List ℕ) (p : Plan) → length input ≤ 262144 → IsPlan input p → (r : Result Answer Memory) →
+    IfOk r (λ a. DueRun o schedule p a.status a.text) → IfOk r (λ a. DueDrill o schedule input a.status a.text)
+due_run o schedule input p fits is (Ok a) due = by a.status due
+  where
+    by : (s : Status) → DueRun o schedule p s a.text → DueDrill o schedule input s a.text
+    by statuses.Done due = (fits, (p, is, due))
+    by statuses.Still due = (fits, (p, is, due))
+    by statuses.Usage due = (fits, (p, is, due))
+    by statuses.Job due = absurd due
+    by statuses.Long due = absurd due
+    by statuses.Read due = absurd due
+    by statuses.Write due = absurd due
+    by statuses.Memory due = absurd due
+due_run o schedule input p fits is (Err e) due = tt

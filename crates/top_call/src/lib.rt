@@ -12,4 +12,3 @@ pub mod process;
 mod refusal;
 pub mod status;
 pub mod top;
-pub mod words;

@@ -1,9 +1,9 @@
-//! The line that tells why an input is no job.
+//! Lines that tell why a job is not run.
 
 ghost use Rattle.std.specs.Prelude.{◌≡◌, ◌≤◌, ◌++◌, length, IfOk, OnOk};
 ghost use Rattle.std.specs.Fmt.{decimal};
 ghost use Rattle.chare_checker.specs.Wording.{wording};
-ghost use Rattle.top_call.specs.Due.{job_line};
+ghost use Rattle.top_call.specs.Due.{job_line, nodes_line};
 
 use chare_base::bytes::Bytes;
 use chare_base::memory::Memory;
@@ -24,6 +24,18 @@ pub(crate) fn job_line(alloc: Global, input: &[u8], at: u32, code: u8) -> Result
     put_number(alloc, &mut line, wording.column)?;
     line.extend(b" ")?;
     line.extend(word(wording.code))?;
+    line.extend(b"\n")?;
+    Ok(line)
+}
+
+/// `nodes M elements E`: there are more nodes than elements.
+pub(crate) fn nodes_line(alloc: Global, nodes: u16, elements: u32) -> Result<Bytes, Memory>
+    ensures { IfOk result (λ line. line ≡ nodes_line nodes elements) }
+{
+    let mut line = Bytes::from_slice(alloc, b"nodes ")?;
+    put_number(alloc, &mut line, u32::from(nodes))?;
+    line.extend(b" elements ")?;
+    put_number(alloc, &mut line, elements)?;
     line.extend(b"\n")?;
     Ok(line)
 }

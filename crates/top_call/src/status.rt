@@ -11,7 +11,7 @@ use std::process::ExitCode;
 pub enum Status {
     /// The command succeeded; its text was written.
     Done,
-    /// The words are no command; text `usage`.
+    /// The words are no command, text `usage`; or there are more nodes than elements, text `nodes`.
     Usage,
     /// The input is no job; text `job`.
     Job,
@@ -23,6 +23,8 @@ pub enum Status {
     Write,
     /// Memory ran out; nothing was written.
     Memory,
+    /// No slot and not the conductor had an event before the run ended; text `still`.
+    Still,
 }
 
 impl Status {
@@ -38,6 +40,7 @@ impl Status {
             Status::Read => 6,
             Status::Write => 7,
             Status::Memory => 10,
+            Status::Still => 11,
         }
     }
 

@@ -1,12 +1,13 @@
 //! The top call: reads all, builds the whole text, and then writes.
 
 ghost use Rattle.std.specs.Prelude.{◌≡◌, ◌+◌, ◌≤◌};
-ghost use Rattle.top_call.specs.Due.{Answers, IsDrill, Written};
+ghost use Rattle.std.specs.Prelude.{None};
+ghost use Rattle.top_call.specs.Due.{Answers, Written, asked};
 
 use crate::answer::{Answer, INPUT_LIMIT, answer_to};
 use crate::status::Status;
-use crate::words::is_drill;
 use chare_base::memory::Memory;
+use command_words::words::command_of;
 use outside_io::edge::{Failed, ReadFault, Sink, Source, read_up_to, write_all};
 use std::alloc::Global;
 
@@ -21,17 +22,17 @@ pub fn acr_quiet<S: Source, K: Sink>(
 ) -> Status
     ensures answer { Answers words.now (S.left source.old) (S.left source.new) (S.faults source.old) (S.faults source.new) (K.given sink.old) (K.given sink.new) (K.faults sink.old) (K.faults sink.new) result }
     ensures takes { S.takes source.new ≤ S.takes source.old + 262145 }
-    ensures unread { (IsDrill words.now → ⊥) → S.takes source.new ≡ S.takes source.old }
+    ensures unread { asked words.now ≡ None → S.takes source.new ≡ S.takes source.old }
 {
-    if !is_drill(words) {
+    let Some(command) = command_of(words) else {
         return written(sink, Status::Usage, b"usage\n");
-    }
+    };
     let input = match read_up_to(alloc, source, INPUT_LIMIT + 1) {
         Ok(input) => input,
         Err(ReadFault::Memory) => return Status::Memory,
         Err(ReadFault::Failed) => return written(sink, Status::Read, b"read\n"),
     };
-    match answer_to(alloc, input.as_slice()) {
+    match answer_to(alloc, command, input.as_slice()) {
         Ok(Answer { status, text }) => written(sink, status, text.as_slice()),
         Err(Memory) => Status::Memory,
     }

@@ -1,8 +1,8 @@
+pub mod Ables
 pub mod Lists
 pub mod Caps
 pub mod Steady
 pub mod Serving
-pub mod Capping
 pub mod Picks
 pub mod Plainly
 pub mod Firsts

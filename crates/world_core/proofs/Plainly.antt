@@ -10,14 +10,13 @@ use Rattle.pup_state.specs.Spelling.{pack}
 use Rattle.run_ledger.specs.declared.record.Record.{Record}
 use Rattle.run_ledger.specs.declared.record.Record.TheVariants.{Accept, Done}
 use Rattle.run_ledger.specs.Conditions.{due, is_next, unlawful}
-use Rattle.run_ledger.specs.Lawful.{Lawful}
+use Rattle.run_ledger.specs.Lawful.{Steps}
 use Rattle.run_ledger.specs.Ledgers.{LedgerState, after, opening_ledger}
 use Rattle.conductor_core.specs.declared.ending.Ending.{Ending}
 use Rattle.conductor_core.specs.declared.ending.Outcome.TheVariants as outcomes
 use Rattle.conductor_core.specs.Conductors.{ConductorState}
-use Rattle.conductor_core.specs.Endings.{marks_from}
+use Rattle.conductor_core.specs.Endings.{IsEnding, IsLast, marks_from}
 use Rattle.conductor_core.specs.Tells.{Ended, Tells, last_of}
-use Rattle.world_core.specs.Drills.{FaultFree}
 use Rattle.world_core.specs.Sound.{Sound}
 use Rattle.world_core.specs.Worlds.{Setting, WorldState}
 
@@ -42,26 +41,26 @@ module _ (p : Plan) (o : Options) (some : 1 ≤ p.iterations) where
   done : unlawful (after opening (Accept p.iterations)) Done ≡ None
   done = ap (λ b. Rattle.run_ledger.specs.Conditions.first_false 1 (true ∷ b ∷ true ∷ [])) (eq-eqb p.iterations p.iterations refl)
 
-  pub done_lawful : Lawful p [] o (Accept p.iterations ∷ Done ∷ [])
-  done_lawful = record {
-    steps = (record { lawful = accepts; tells = refl }, (record { lawful = done; tells = tt }, tt));
-    last = Done;
-    ends = record { before = Accept p.iterations ∷ []; all = refl };
-    over = tt;
-  }
+  done_steps : Steps p [] o (Accept p.iterations ∷ Done ∷ [])
+  done_steps = (record { lawful = accepts; tells = refl }, (record { lawful = done; tells = tt }, tt))
 
   -- an ending that has what a sound world's conductor has
-  pub fault_free : (s : Setting) (w : WorldState) (ending : Ending) → s.plan ≡ p → s.script ≡ [] → Sound s w → w.conductor.outcome ≡ Some ending.outcome → ending.records.items ≡ w.conductor.records →
-      ending.marks ≡ w.conductor.marks → ending.last ≡ w.conductor.last → FaultFree p o ending
-  fault_free s w ending plan script sound outcome records marks last =
+  pub ends_lawfully : (s : Setting) (w : WorldState) (ending : Ending) → s.plan ≡ p → s.script ≡ [] → Sound s w → w.conductor.outcome ≡ Some ending.outcome → ending.records.items ≡ w.conductor.records →
+      ending.marks ≡ w.conductor.marks → ending.last ≡ w.conductor.last → IsEnding p [] o ending
+  ends_lawfully s w ending plan script sound outcome records marks last =
       let ended : Ended s.plan s.script w.conductor = sound.conductor.ended (some_is w.conductor.outcome outcome) in
       let same : Ended p [] w.conductor = subst (λ q. Ended q [] w.conductor) plan (subst (λ l. Ended s.plan l w.conductor) script ended) in
       let all : ending.records.items ≡ Accept p.iterations ∷ Done ∷ [] = records ∙ same.records in
       record {
+        lawful = record {
+          steps = subst (Steps p [] o) (sym all) done_steps;
+          last = Done;
+          ends = record { before = Accept p.iterations ∷ []; all = all };
+          over = tt;
+        };
         outcome = given (sym outcome ∙ same.outcome);
-        lawful = subst (Lawful p [] o) (sym all) done_lawful;
         marks = marks ∙ same.marks ∙ sym (ap (marks_from p opening) all);
-        last = last ∙ same.last;
+        last = subst (λ (rs : List Record). IsLast p opening rs ending.last) (sym all) (tt, (last ∙ same.last, tt));
       }
     where
       some_is : (o : Option Rattle.conductor_core.specs.declared.ending.Outcome.Outcome) → o ≡ Some ending.outcome → IsSome o

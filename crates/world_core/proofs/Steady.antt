@@ -87,6 +87,7 @@ module _ (s : Setting) where
                   keeps = old.keeps;
                   capped = old.capped;
                   letters = all_behind (Holds s.plan s.script s.place (boxes.Slot x.node.slot)) x.box letter old.letters here;
+                  able = old.able;
                   current = hears_next x.node x.box letter;
                 });
             desk = all.desk;
@@ -106,6 +107,7 @@ module _ (s : Setting) where
         keeps = on.keeps;
         capped = capped;
         letters = subst (λ name. AllTrue s (boxes.Slot name) box) (sym on.slot) letters;
+        able = refl;
         current = refl;
       } in
       let b : PostsSound (posted s.nodes o.out (record { slots = with_slot s.nodes w.posts.slots slot (renewed s.plan o.node box); desk = w.posts.desk })) =
@@ -176,6 +178,7 @@ slots_start starts s placed replica (suc n) =
       keeps = starts s.plan s.script s.place slot live placed.count;
       capped = start_capped s.plan s.script s.place s.plan.iterations slot live;
       letters = tt;
+      able = refl;
       current = refl;
     })
 

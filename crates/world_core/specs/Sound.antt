@@ -27,7 +27,7 @@ use Rattle.conductor_core.specs.Tells.{Tells, last_sent}
 use Rattle.world_core.specs.declared.doing.Since.{Since}
 use Rattle.world_core.specs.declared.doing.Since.TheVariants.{Nothing, Ordered, Resumed}
 use Rattle.world_core.specs.declared.event.Event.{Event}
-use Rattle.world_core.specs.Worlds.{Setting, SlotState, WorldState, happens, opening_world, reached, slot_doing}
+use Rattle.world_core.specs.Worlds.{Setting, SlotState, WorldState, ables, happens, opening_world, reached, slot_doing, stand}
 
 -- every letter of an inbox is true to it
 abbrev pub AllTrue : Setting → BoxId → List Letter → Type 0
@@ -69,7 +69,8 @@ pub record SlotSound (s : Setting) (cut : CutState) (c : ConductorState) (x : Sl
   pub bounded : IsBounded (slot_of cut x.node.slot).top x.back (objects_of x.node.body)
   pub packed : IfSome (fresh_of x.node.body) (λ (piece : Piece). Stays piece.iteration (slot_of cut x.node.slot))
   pub since : IsSince x.since (fresh_of x.node.body)
-  -- what it is kept to do is what it would do
+  -- what is kept of it is so: which of its objects can run, and what it would do
+  pub able : x.able ≡ ables s.plan (stand cut x.node.slot).top x.node
   pub current : x.doing ≡ slot_doing s.plan cut x
 
 abbrev pub slot_name : SlotState → SlotId

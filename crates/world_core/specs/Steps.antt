@@ -1,15 +1,19 @@
 -- Which events can happen.
-use Rattle.std.specs.Prelude.{◌≡◌, ℕ, ◌&&◌, not, Bool, true, false, if◌then◌else◌, is_some, is_none, List, [], ◌∷◌, Option, Some, None}
+use Rattle.std.specs.Prelude.{◌≡◌, ℕ, suc, slice_get, slice_set, ◌&&◌, not, Bool, true, false, if◌then◌else◌, is_some, is_none, List, [], ◌∷◌, Option, Some, None}
 use Rattle.std.specs.List.{AllByRecursion}
 use Rattle.chare_base.specs.declared.plan.ElementId.{ElementId}
 use Rattle.chare_base.specs.declared.plan.Plan.{Plan}
 use Rattle.fault_script.specs.declared.fault.Fault.{Fault}
 use Rattle.iteration_agree.specs.Cuts.{CutState}
 use Rattle.letter_post.specs.declared.letter.Letter.{Letter}
-use Rattle.node_core.specs.Nodes.{node_can_run, rests}
+use Rattle.letter_post.specs.declared.letter.Letter.TheVariants as letters
+use Rattle.node_core.specs.Nodes.{NodeState, can_run_by, node_can_run, objects_of, rests}
+use Rattle.node_core.specs.Rosters.{seat_of}
+use Rattle.world_core.specs.declared.doing.Reach.{Reach}
+use Rattle.world_core.specs.declared.doing.Reach.TheVariants.{Nobody, Element, Everybody}
 use Rattle.world_core.specs.declared.event.Event.{Event}
 use Rattle.world_core.specs.declared.event.Event.TheVariants as events
-use Rattle.world_core.specs.Worlds.{Setting, SlotState, WorldState, conductor_due, slot_at, slot_doing, slot_move, stand}
+use Rattle.world_core.specs.Worlds.{Setting, SlotState, WorldState, ables, conductor_due, slot_at, slot_doing, slot_move, stand}
 
 abbrev pub setting : Plan → List Fault → List ℕ → ℕ → Setting
 setting p script place nodes = record { plan = p; script = script; place = place; nodes = nodes }
@@ -17,6 +21,44 @@ setting p script place nodes = record { plan = p; script = script; place = place
 -- what a slot is kept to do is what it would do
 abbrev pub Current : Plan → CutState → SlotState → Type 0
 Current p cut x = x.doing ≡ slot_doing p cut x
+
+-- ---- which objects can run, kept as events touch them
+
+-- which objects a letter may touch
+abbrev pub reach_of : Letter → Reach
+reach_of (letters.Parcel stamp entry k to payload) = Element to
+reach_of (letters.Partial stamp r k node value) = Nobody
+reach_of (letters.Total stamp r k value) = Everybody
+reach_of (letters.Piece stamp piece) = Nobody
+reach_of (letters.VerdictOf first second node k verdict piece) = Nobody
+reach_of (letters.Lend k fresh) = Nobody
+reach_of (letters.Take stamp k live piece) = Everybody
+reach_of (letters.Restore stamp k live) = Everybody
+reach_of (letters.Commit stamp k live) = Everybody
+reach_of (letters.Resume stamp) = Everybody
+reach_of (letters.Died stamp slot line) = Nobody
+reach_of letters.Stop = Nobody
+
+-- whether the object of a seat can run
+abbrev pub able_at : Plan → ℕ → NodeState → ℕ → Bool
+able_at p top n i = can_run_by p top (slice_get (objects_of n.body) i)
+
+-- the object of a seat may have changed
+abbrev pub marked : Plan → ℕ → NodeState → Option ℕ → List Bool → List Bool
+marked p top n None able = able
+marked p top n (Some i) able = slice_set able i (able_at p top n i)
+
+abbrev pub marked_by : Plan → ℕ → NodeState → Reach → List Bool → List Bool
+marked_by p top n Nobody able = able
+marked_by p top n (Element e) able = marked p top n (seat_of n.roster e.0) able
+marked_by p top n Everybody able = ables p top n
+
+-- the place of the first that can run; the first of these has number i
+abbrev pub first_able : ℕ → List Bool → Option ℕ
+first_able i [] = None
+first_able i (b ∷ more) = if b then Some i else first_able (suc i) more
+
+-- ---- which events can happen
 
 abbrev pub can_run_on : Plan → CutState → ElementId → Option SlotState → Bool
 can_run_on p cut e None = false

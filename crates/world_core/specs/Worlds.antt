@@ -17,7 +17,8 @@ use Rattle.letter_post.specs.declared.letter.BoxId.TheVariants as boxes
 use Rattle.letter_post.specs.declared.letter.Letter.{Letter}
 use Rattle.letter_post.specs.declared.letter.Letter.TheVariants as letters
 use Rattle.letter_post.specs.declared.letter.Sent.{Sent}
-use Rattle.node_core.specs.Nodes.{NodeState, Outcome, first_running, node_heard, node_packed, node_ran, outcome_of}
+use Rattle.node_core.specs.Nodes.{NodeState, Outcome, first_running, node_heard, node_packed, node_ran, objects_of, outcome_of}
+use Rattle.node_core.specs.Turns.{can_run}
 use Rattle.node_core.specs.Starts.{start_state}
 use Rattle.conductor_core.specs.Conductors.{ConductorState, Heard, conductor_did, conductor_heard, wanted, start_conductor}
 use Rattle.conductor_core.specs.Conductors.{sight_of as last_sight}
@@ -54,6 +55,8 @@ pub record SlotState : Type 0 where
   pub back : Option ℕ
   -- which orders it heard since it last packed
   pub since : Since
+  -- of each of its node's objects whether it can run below the slot's top, kept
+  pub able : List Bool
   -- what it would do next, kept
   pub doing : Option Doing
 
@@ -97,9 +100,20 @@ doing_of p round t n (letter ∷ more) back since = Some doings.Hear
 abbrev pub stand : CutState → SlotId → Standing
 stand cut slot = standing_of (slot_of cut slot)
 
+-- of each of a node's objects whether it can run below a top
+abbrev pub ables : Plan → ℕ → NodeState → List Bool
+ables p top n = map (can_run p top) (objects_of n.body)
+
 -- a slot with these parts, in this agreement
 abbrev pub renewed : Plan → CutState → NodeState → List Letter → Option ℕ → Since → SlotState
-renewed p cut n box back since = record { node = n; box = box; back = back; since = since; doing = doing_of p cut.round (stand cut n.slot) n box back since }
+renewed p cut n box back since = record {
+  node = n;
+  box = box;
+  back = back;
+  since = since;
+  able = ables p (stand cut n.slot).top n;
+  doing = doing_of p cut.round (stand cut n.slot) n box back since;
+}
 
 -- the same slot, in another agreement
 abbrev pub again : Plan → CutState → SlotState → SlotState
@@ -125,7 +139,7 @@ with_slot nodes all slot s = slice_set all (number_of nodes slot) s
 
 -- a letter comes at the back, so the slot hears next
 abbrev pub slot_put : Letter → SlotState → SlotState
-slot_put letter x = record { node = x.node; box = x.box ++ letter ∷ []; back = x.back; since = x.since; doing = Some doings.Hear }
+slot_put letter x = record { node = x.node; box = x.box ++ letter ∷ []; back = x.back; since = x.since; able = x.able; doing = Some doings.Hear }
 
 abbrev pub put_by : ℕ → SlotId → Letter → Posts → Option SlotState → Posts
 put_by nodes slot letter b None = b

@@ -30,6 +30,14 @@ pub enum SlotMove {
     Begin { k: u64 },
 }
 
+/// Which of a node's elements a letter may touch.
+#[derive(Clone, Copy, Debug, PartialEq, Eq)]
+pub enum Reach {
+    Nobody,
+    Element(ElementId),
+    Everybody,
+}
+
 /// Which orders a slot has heard since it last packed.
 #[derive(Clone, Copy, Debug, PartialEq, Eq)]
 pub enum Since {

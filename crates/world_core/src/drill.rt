@@ -5,7 +5,8 @@ ghost use Rattle.std.specs.List.{AllByRecursion};
 ghost use Rattle.chare_base.specs.Elements.{elements};
 ghost use Rattle.fault_script.specs.Lines.{faults_of};
 ghost use Rattle.world_core.specs.Bounds.{capped, turns_bound};
-ghost use Rattle.world_core.specs.Drills.{FaultFree, drilled, scheduled};
+ghost use Rattle.conductor_core.specs.Endings.{IsEnding};
+ghost use Rattle.world_core.specs.Drills.{drilled, scheduled};
 ghost use Rattle.world_core.specs.Sound.{Sound};
 ghost use Rattle.world_core.specs.Steps.{Current, setting};
 ghost use Rattle.world_core.specs.Worlds.{actor_at, chosen_of, drawn, enabled, first_above, goes_on, opening_chooser, picked, reached, ready_from, stirred};
@@ -44,7 +45,7 @@ pub fn drill(
     ensures marks { IfOk result (λ ending. ending.marks ≡ (drilled plan.now script.now options.now schedule).conductor.marks) }
     ensures last { IfOk result (λ ending. ending.last ≡ (drilled plan.now script.now options.now schedule).conductor.last) }
     ensures still { result ≡ Err DrillFault.Still → (drilled plan.now script.now options.now schedule).conductor.outcome ≡ None }
-    ensures lawful { IfOk result (λ ending. script.now ≡ [] → FaultFree plan.now options.now ending) }
+    ensures lawful { IfOk result (λ ending. script.now ≡ [] → IsEnding plan.now [] options.now ending) }
 {
     let map = BlockMap {
         elements: plan.elements(),

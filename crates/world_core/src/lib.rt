@@ -13,6 +13,7 @@
 //! The top call drills through this crate, and tests try schedules with it.
 #![tactic(auto)]
 
+mod able;
 pub mod doing;
 pub mod drill;
 pub mod event;

@@ -4,12 +4,13 @@ ghost use Rattle.std.specs.Prelude.{◌≡◌, ◌<◌, ◌==◌, ◌&&◌, ◌+
 ghost use Rattle.chare_base.specs.Elements.{elements};
 ghost use Rattle.fault_script.specs.Lines.{faults_of};
 ghost use Rattle.node_core.specs.Keeps.{Capped, Fitted, Keeps};
-ghost use Rattle.node_core.specs.Nodes.{node_can_run, node_packed, node_ran, out_of, outcome_of, rests};
+ghost use Rattle.node_core.specs.Nodes.{first_running, node_can_run, node_packed, node_ran, out_of, outcome_of, rests};
 ghost use Rattle.node_core.specs.Starts.{start_state};
 ghost use Rattle.world_core.specs.Sound.{SlotSound};
 ghost use Rattle.world_core.specs.Steps.{Acted, acted, can_hear, can_move, can_run_on, has_letter, heard_first, setting};
-ghost use Rattle.world_core.specs.Worlds.{doing_of, move_due, node_doing, renewed, slot_put};
+ghost use Rattle.world_core.specs.Worlds.{ables, doing_of, move_due, node_doing, renewed, slot_put};
 
+use crate::able::{first_able, mark, mark_by, reach_of, start_able};
 use crate::doing::Doing;
 use crate::inbox::Inbox;
 use chare_base::memory::Memory;
@@ -30,6 +31,7 @@ use std::marker::Model;
 pub struct Slot {
     node: Node,
     inbox: Inbox,
+    able: Vec<bool>,
     doing: Option<Doing>,
 }
 
@@ -38,7 +40,7 @@ impl Model for Slot {
 
     ghost Value = { SlotState };
 
-    ghost view = { λ s. record { node = s.node; box = s.inbox; doing = s.doing } };
+    ghost view = { λ s. record { node = s.node; box = s.inbox; able = s.able.items; doing = s.doing } };
 }
 
 impl Slot {
@@ -58,10 +60,13 @@ impl Slot {
     {
         nodes_keep();
         let node = Node::start(alloc, plan, script, map, slot, live)?;
-        let doing = node_doing(plan, &node);
+        let mut able = Vec::new(alloc);
+        start_able(plan, &node, &mut able)?;
+        let doing = node_doing(plan, &node, able.as_slice());
         Ok(Slot {
             node,
             inbox: Inbox::new(alloc),
+            able,
             doing,
         })
     }
@@ -131,7 +136,8 @@ impl Slot {
     {
         nodes_keep();
         let turn = self.node.run_element(alloc, plan, script, map, e, plan.iterations())?;
-        self.doing = doing_of(plan, &self.node, &self.inbox);
+        mark(plan, &self.node, e, &mut self.able);
+        self.doing = doing_of(plan, &self.node, &self.inbox, self.able.as_slice());
         Ok(sent_by(alloc, turn))
     }
 
@@ -151,8 +157,10 @@ impl Slot {
         nodes_keep();
         match self.inbox.take() {
             Some(letter) => {
+                let reach = reach_of(&letter);
                 let out = self.node.hear(alloc, plan, script, map, letter)?;
-                self.doing = doing_of(plan, &self.node, &self.inbox);
+                mark_by(plan, &self.node, reach, &mut self.able)?;
+                self.doing = doing_of(plan, &self.node, &self.inbox, self.able.as_slice());
                 Ok(out)
             }
             None => Ok(Outbox::new(alloc)),
@@ -176,33 +184,49 @@ impl Slot {
         let _ = map;
         nodes_keep();
         let out = self.node.pack(alloc, plan, script, plan.iterations())?;
-        self.doing = doing_of(plan, &self.node, &self.inbox);
+        self.doing = doing_of(plan, &self.node, &self.inbox, self.able.as_slice());
         Ok(out)
     }
 }
 
 // What a slot would do next.
-fn doing_of(plan: &Plan, node: &Node, inbox: &Inbox) -> Option<Doing>
-    requires { Fitted plan.now node.now }
+fn doing_of(plan: &Plan, node: &Node, inbox: &Inbox, able: &[bool]) -> Option<Doing>
+    requires { able.now ≡ ables plan.now node.now }
     ensures { result ≡ doing_of plan.now node.now inbox.now }
 {
     if inbox.has_letter() {
         Some(Doing::Hear)
     } else {
-        node_doing(plan, node)
+        node_doing(plan, node, able)
     }
 }
 
-fn node_doing(plan: &Plan, node: &Node) -> Option<Doing>
-    requires { Fitted plan.now node.now }
+fn node_doing(plan: &Plan, node: &Node, able: &[bool]) -> Option<Doing>
+    requires { able.now ≡ ables plan.now node.now }
     ensures { result ≡ node_doing plan.now node.now }
 {
     if move_due(plan, node) {
         return Some(Doing::Move);
     }
-    match node.first_running(plan, plan.iterations()) {
+    match first_running(plan, node, able) {
         Some(e) => Some(Doing::Run(e)),
         None => None,
+    }
+}
+
+// The least element that can run.
+#[tactic(auto, using(crate::proofs::Ables::rests_is, crate::proofs::Ables::none_is, crate::proofs::Ables::some_is))]
+fn first_running(plan: &Plan, node: &Node, able: &[bool]) -> Option<ElementId>
+    requires { able.now ≡ ables plan.now node.now }
+    ensures { result ≡ first_running plan.now plan.now.iterations node.now }
+{
+    let _ = plan;
+    if node.rests() {
+        return None;
+    }
+    match first_able(able) {
+        None => None,
+        Some(seat) => node.element_of_seat(seat),
     }
 }
 

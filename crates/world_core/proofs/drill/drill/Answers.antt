@@ -5,7 +5,7 @@ use Rattle.chare_base.proofs.Facts.{iterations_some}
 use Rattle.fault_script.specs.Lines.{faults_of}
 use Rattle.world_core.specs.Steps.{setting}
 use Rattle.world_core.specs.Worlds.{Setting}
-use Rattle.world_core.proofs.Plainly.{fault_free}
+use Rattle.world_core.proofs.Plainly.{ends_lawfully}
 use Rattle.world_core.proofs.drill.drill.Goals as goal
 
 pub run-requires-clause-place : goal.run-requires-clause-place
@@ -14,5 +14,5 @@ run-requires-clause-place c = blocks_count c.elements.result c.args.options.now.
 pub returns-in-Some-clause-lawful : goal.returns-in-Some-clause-lawful
 returns-in-Some-clause-lawful c = λ none.
     let s : Setting = setting c.args.plan.now (faults_of c.args.script.now) (block_nodes c.elements.result c.args.options.now.nodes) c.args.options.now.nodes in
-    fault_free c.args.plan.now c.args.options.now (iterations_some c.args.plan.now) s c.in_ok-world.world c.in-Some.ending refl (ap faults_of none) c.in_ok-world.ensures.sound
+    ends_lawfully c.args.plan.now c.args.options.now (iterations_some c.args.plan.now) s c.in_ok-world.world c.in-Some.ending refl (ap faults_of none) c.in_ok-world.ensures.sound
     c.in-Some.ensures.outcome c.in-Some.ensures.records c.in-Some.ensures.marks c.in-Some.ensures.last

@@ -1,21 +1,27 @@
-use Rattle.std.proofs.Common.{◌≡◌, ◌∙◌, ap, sym, subst, true, List}
+use Rattle.std.proofs.Common.{◌≡◌, ◌∙◌, ap, sym, subst, List}
 use Rattle.fault_script.specs.declared.fault.Fault.{Fault}
 use Rattle.fault_script.specs.Lines.{faults_of}
-use Rattle.node_core.specs.Keeps.{Fitted}
 use Rattle.node_core.specs.Nodes.{Outcome, node_packed}
-use Rattle.world_core.specs.Sound.{SlotSound}
-use Rattle.world_core.specs.Steps.{setting}
-use Rattle.world_core.specs.Worlds.{Setting, SlotState, move_due}
-use Rattle.world_core.proofs.Serving.{packed_fits}
+use Rattle.world_core.specs.Steps.{acted}
+use Rattle.world_core.specs.Worlds.{SlotState, ables}
+use Rattle.world_core.proofs.Ables.{acted_is, packed_kept}
 use Rattle.world_core.proofs.slot.Slot.pack.Goals as goal
 
 pub doing_of-self-inside-requires : goal.doing_of-self-inside-requires
 doing_of-self-inside-requires g c =
     let faults : List Fault = faults_of c.args.script.now in
-    let s : Setting = setting c.args.plan.now faults (g.M.Placement.place c.args.map.now) (g.M.Placement.count c.args.map.now) in
-    let inside : SlotState = record { node = c.self.inside.node; box = c.self.inside.inbox; doing = c.self.inside.doing } in
-    let P : SlotState → Type 0 = λ x. SlotSound s x in
-    let Q : SlotState → Type 0 = λ x. move_due c.args.plan.now x.node ≡ true in
-    let fits = packed_fits c.nodes_keep.ensures.packs c.nodes_keep.ensures.fits s inside (subst P (sym c.self.view_is) c.requires.sound) (subst Q (sym c.self.view_is) c.requires.due) in
-    let is = c.in_ok-out.ensures.ok ∙ ap (λ k. node_packed c.args.plan.now faults k c.self.inside.node) c.iterations.ensures.exact in
-    subst (Fitted c.args.plan.now) (sym (ap (λ (o : Outcome). o.node) is)) fits
+    let inside : SlotState = record { node = c.self.inside.node; box = c.self.inside.inbox; able = c.self.inside.able.items; doing = c.self.inside.doing } in
+    let kept : inside.able ≡ ables c.args.plan.now inside.node = subst (λ (x : SlotState). x.able ≡ ables c.args.plan.now x.node) (sym c.self.view_is) c.requires.sound.able in
+    let is = c.in_ok-out.ensures.ok ∙ ap (λ k. node_packed c.args.plan.now faults k inside.node) c.iterations.ensures.exact in
+    c.as_slice.ensures.value ∙ packed_kept c.args.plan.now faults c.args.plan.now.iterations inside.node c.pack.new.self inside.able kept (ap (λ (o : Outcome). o.node) is)
+
+pub returns : goal.returns
+returns g c =
+    let faults : List Fault = faults_of c.args.script.now in
+    let inside : SlotState = record { node = c.self.inside.node; box = c.self.inside.inbox; able = c.self.inside.able.items; doing = c.self.inside.doing } in
+    let kept : inside.able ≡ ables c.args.plan.now inside.node = subst (λ (x : SlotState). x.able ≡ ables c.args.plan.now x.node) (sym c.self.view_is) c.requires.sound.able in
+    let is = c.in_ok-out.ensures.ok ∙ ap (λ k. node_packed c.args.plan.now faults k inside.node) c.iterations.ensures.exact in
+    acted_is c.args.plan.now (node_packed c.args.plan.now faults c.args.plan.now.iterations inside.node) inside.box c.pack.new.self c.in_ok-out.out inside.able c.doing_of-self-inside.result is
+    (packed_kept c.args.plan.now faults c.args.plan.now.iterations inside.node c.pack.new.self inside.able kept (ap (λ (o : Outcome). o.node) is))
+    c.doing_of-self-inside.ensures
+    ∙ ap (λ (y : SlotState). acted c.args.plan.now (node_packed c.args.plan.now faults c.args.plan.now.iterations y.node) y.box) c.self.view_is
