@@ -27,22 +27,27 @@ pub fn reach_of(letter: &Letter) -> Reach
         Letter::Take { .. } => Reach::Everybody,
         Letter::Restore { .. } => Reach::Everybody,
         Letter::Commit { .. } => Reach::Everybody,
-        Letter::Resume { .. } => Reach::Nobody,
+        Letter::Resume { .. } => Reach::Everybody,
         Letter::Died { .. } => Reach::Nobody,
         Letter::Stop => Reach::Nobody,
     }
 }
 
-/// Of each object of a node whether it can run.
+/// Of each object of a node whether it can run below a top.
 ///
 /// `Memory`: an allocation was refused.
-pub fn start_able(plan: &Plan, node: &Node, able: &mut Vec<bool>) -> Result<(), Memory>
+pub fn start_able(
+    plan: &Plan,
+    top: u64,
+    node: &Node,
+    able: &mut Vec<bool>,
+) -> Result<(), Memory>
     requires fits { Fitted plan.now node.now }
     requires empty { able.old.items ≡ [] }
-    ensures { OnOk result (able.new.items ≡ ables plan.now node.now) }
+    ensures { OnOk result (able.new.items ≡ ables plan.now top node.now) }
 {
     for seat in 0..node.count() {
-        able.push(node.can_run_seat(plan, plan.iterations(), seat))?;
+        able.push(node.can_run_seat(plan, top, seat))?;
     }
     Ok(())
 }
@@ -50,39 +55,45 @@ pub fn start_able(plan: &Plan, node: &Node, able: &mut Vec<bool>) -> Result<(), 
 /// Those that a letter may have touched are looked at again.
 ///
 /// `Memory`: an allocation was refused; what is kept is of no further use.
-pub fn mark_by(plan: &Plan, node: &Node, reach: Reach, able: &mut Vec<bool>) -> Result<(), Memory>
+pub fn mark_by(
+    plan: &Plan,
+    top: u64,
+    node: &Node,
+    reach: Reach,
+    able: &mut Vec<bool>,
+) -> Result<(), Memory>
     requires { Fitted plan.now node.now }
-    ensures { OnOk result (able.new.items ≡ marked_by plan.now node.now reach able.old.items) }
+    ensures { OnOk result (able.new.items ≡ marked_by plan.now top node.now reach able.old.items) }
 {
     match reach {
         Reach::Nobody => Ok(()),
         Reach::Element(e) => {
-            mark(plan, node, e, able);
+            mark(plan, top, node, e, able);
             Ok(())
         }
         Reach::Everybody => {
             able.clear();
-            start_able(plan, node, able)
+            start_able(plan, top, node, able)
         }
     }
 }
 
 /// An element is looked at again.
-pub fn mark(plan: &Plan, node: &Node, e: ElementId, able: &mut Vec<bool>)
+pub fn mark(plan: &Plan, top: u64, node: &Node, e: ElementId, able: &mut Vec<bool>)
     requires { Fitted plan.now node.now }
-    ensures { able.new.items ≡ marked plan.now node.now (seat_of node.now.roster e.0) able.old.items }
+    ensures { able.new.items ≡ marked plan.now top node.now (seat_of node.now.roster e.0) able.old.items }
 {
     if let Some(seat) = node.seat(e) {
-        mark_seat(plan, node, seat as usize, able);
+        mark_seat(plan, top, node, seat as usize, able);
     }
 }
 
-fn mark_seat(plan: &Plan, node: &Node, seat: usize, able: &mut Vec<bool>)
+fn mark_seat(plan: &Plan, top: u64, node: &Node, seat: usize, able: &mut Vec<bool>)
     requires { Fitted plan.now node.now }
-    ensures { able.new.items ≡ slice_set able.old.items seat (able_at plan.now node.now seat) }
+    ensures { able.new.items ≡ slice_set able.old.items seat (able_at plan.now top node.now seat) }
 {
     if seat < able.len() {
-        able[seat] = node.can_run_seat(plan, plan.iterations(), seat);
+        able[seat] = node.can_run_seat(plan, top, seat);
     }
 }
 
