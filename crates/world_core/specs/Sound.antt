@@ -6,7 +6,7 @@ use Rattle.chare_base.specs.declared.options.Options.{Options}
 use Rattle.chare_base.specs.declared.slots.SlotId.{SlotId}
 use Rattle.chare_base.specs.Elements.{elements}
 use Rattle.chare_base.specs.Placing.{Covers}
-use Rattle.iteration_agree.specs.Cuts.{CutState, slot_of}
+use Rattle.iteration_agree.specs.Cuts.{CutState, HasSlot, slot_of}
 use Rattle.iteration_agree.specs.Slots.{reported}
 use Rattle.iteration_agree.specs.Under.{IsCut, SawAgreed}
 use Rattle.iteration_agree.specs.declared.round.Round.{Round}
@@ -16,7 +16,7 @@ use Rattle.letter_post.specs.declared.letter.BoxId.{BoxId}
 use Rattle.letter_post.specs.declared.letter.BoxId.TheVariants as boxes
 use Rattle.letter_post.specs.declared.letter.Letter.{Letter}
 use Rattle.letter_post.specs.declared.order.LastOrder.{LastOrder}
-use Rattle.letter_post.specs.Orders.{Chain}
+use Rattle.letter_post.specs.Orders.{Chain, FollowsOrder}
 use Rattle.letter_post.specs.Truth.{Holds}
 use Rattle.object_steps.specs.Objects.{Progress}
 use Rattle.pup_state.specs.declared.piece.Piece.{Piece}
@@ -60,6 +60,11 @@ IsSince Nothing fresh = Unit {0}
 IsSince Ordered fresh = fresh ≡ None
 IsSince Resumed fresh = fresh ≡ None
 
+-- the first of these letters follows the last order
+abbrev pub FirstFollows : Setting → LastOrder → List Letter → Type 0
+FirstFollows s last [] = Unit {0}
+FirstFollows s last (letter ∷ more) = FollowsOrder s.plan s.script last letter
+
 pub record SlotSound (s : Setting) (cut : CutState) (c : ConductorState) (x : SlotState) : Type 0 where
   -- its node keeps the definition under its last order
   pub keeps : Keeps s.plan s.script s.place x.node
@@ -72,6 +77,16 @@ pub record SlotSound (s : Setting) (cut : CutState) (c : ConductorState) (x : Sl
   -- what is kept of it is so: which of its objects can run, and what it would do
   pub able : x.able ≡ ables s.plan (stand cut x.node.slot).top x.node
   pub current : x.doing ≡ slot_doing s.plan cut x
+
+-- what the events of a slot ask of it
+pub record Served (s : Setting) (cut : CutState) (x : SlotState) : Type 0 where
+  pub fits : Fitted s.plan x.node
+  pub keeps : Keeps s.plan s.script s.place x.node
+  pub letters : AllTrue s (boxes.Slot x.node.slot) x.box
+  pub slot : HasSlot cut x.node.slot
+  pub able : x.able ≡ ables s.plan (stand cut x.node.slot).top x.node
+  -- a first letter that is an order follows the last one
+  pub follows : FirstFollows s x.node.last x.box
 
 abbrev pub slot_name : SlotState → SlotId
 slot_name x = x.node.slot

@@ -4,11 +4,14 @@ use Rattle.std.specs.List.{AllByRecursion}
 use Rattle.chare_base.specs.declared.plan.ElementId.{ElementId}
 use Rattle.chare_base.specs.declared.plan.Plan.{Plan}
 use Rattle.fault_script.specs.declared.fault.Fault.{Fault}
-use Rattle.iteration_agree.specs.Cuts.{CutState}
+use Rattle.iteration_agree.specs.Cuts.{CutState, HasSlot}
 use Rattle.letter_post.specs.declared.letter.Letter.{Letter}
 use Rattle.letter_post.specs.declared.letter.Letter.TheVariants as letters
+use Rattle.node_core.specs.Keeps.{Fitted}
 use Rattle.node_core.specs.Nodes.{NodeState, can_run_by, node_can_run, objects_of, rests}
 use Rattle.node_core.specs.Rosters.{seat_of}
+use Rattle.world_core.specs.declared.doing.Doing.{Doing}
+use Rattle.world_core.specs.declared.doing.Doing.TheVariants as doings
 use Rattle.world_core.specs.declared.doing.Reach.{Reach}
 use Rattle.world_core.specs.declared.doing.Reach.TheVariants.{Nobody, Element, Everybody}
 use Rattle.world_core.specs.declared.event.Event.{Event}
@@ -58,6 +61,13 @@ abbrev pub first_able : ℕ → List Bool → Option ℕ
 first_able i [] = None
 first_able i (b ∷ more) = if b then Some i else first_able (suc i) more
 
+-- ---- what the calls of a slot ask
+
+-- it has a place in the agreement, and its node's objects fit the plan
+pub record Renews (p : Plan) (cut : CutState) (x : SlotState) : Type 0 where
+  pub fits : Fitted p x.node
+  pub slot : HasSlot cut x.node.slot
+
 -- ---- which events can happen
 
 abbrev pub can_run_on : Plan → CutState → ElementId → Option SlotState → Bool
@@ -76,10 +86,15 @@ abbrev pub can_move : Plan → CutState → Option SlotState → Bool
 can_move p cut None = false
 can_move p cut (Some x) = is_some (slot_move p cut x)
 
+abbrev pub can_act : Plan → CutState → Doing → Option SlotState → Bool
+can_act p cut doings.Hear x = can_hear x
+can_act p cut doings.Move x = can_move p cut x
+can_act p cut (doings.Run e) x = can_run_on p cut e x
+
 abbrev pub event_due : Plan → ℕ → WorldState → Event → Bool
-event_due p nodes w (events.Run slot e) = can_run_on p w.cut e (slot_at nodes w.posts.slots slot)
-event_due p nodes w (events.Hear slot) = can_hear (slot_at nodes w.posts.slots slot)
-event_due p nodes w (events.Move slot) = can_move p w.cut (slot_at nodes w.posts.slots slot)
+event_due p nodes w (events.Run slot e) = can_act p w.cut (doings.Run e) (slot_at nodes w.posts.slots slot)
+event_due p nodes w (events.Hear slot) = can_act p w.cut doings.Hear (slot_at nodes w.posts.slots slot)
+event_due p nodes w (events.Move slot) = can_act p w.cut doings.Move (slot_at nodes w.posts.slots slot)
 event_due p nodes w events.ConductorHear = has_letter w.posts.desk
 event_due p nodes w events.ConductorMove = conductor_due w
 

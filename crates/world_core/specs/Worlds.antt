@@ -8,6 +8,8 @@ use Rattle.fault_script.specs.declared.fault.Fault.{Fault}
 use Rattle.iteration_agree.specs.Cuts.{CutState, agreed, agreement, begun_by, noted, opened, opening_cut, packed_by, quieted, released_by, reported_by, rewound_by, seen_by, slot_of}
 use Rattle.iteration_agree.specs.Rounds.{number}
 use Rattle.iteration_agree.specs.Slots.{sight_of, standing_of}
+use Rattle.iteration_agree.specs.Under.{MayBegin, MayPack, MayRelease, MayReport, MayRewind}
+use Rattle.iteration_agree.specs.declared.slot.Slot.{Slot}
 use Rattle.iteration_agree.specs.declared.round.Round.{Round}
 use Rattle.iteration_agree.specs.declared.round.Round.TheVariants.{Quiet, Gather, Agreed}
 use Rattle.iteration_agree.specs.declared.round.Sight.{Sight}
@@ -225,18 +227,53 @@ abbrev pub slot_heard : Setting → CutState → SlotState → List Letter → A
 slot_heard s cut x [] = record { slot = x; cut = cut; out = [] }
 slot_heard s cut x (letter ∷ more) = acted s.plan cut (node_heard s.plan s.script s.place letter x.node) more (back_after letter x.back) (since_after letter x.since)
 
+-- ---- moves that leave the node as it is
+
+abbrev pub shifted : SlotId → SlotMove → CutState → CutState
+shifted slot slot_moves.See cut = seen_by slot cut
+shifted slot (slot_moves.Rewind base) cut = rewound_by slot base cut
+shifted slot slot_moves.Release cut = released_by slot cut
+shifted slot slot_moves.Report cut = reported_by slot cut
+shifted slot (slot_moves.Pack k) cut = cut
+shifted slot (slot_moves.Begin k) cut = begun_by slot k cut
+
+-- when the agreement takes such a move
+abbrev pub MayMove : SlotMove → Slot → Type 0
+MayMove slot_moves.See t = Unit {0}
+MayMove (slot_moves.Rewind base) t = MayRewind base t
+MayMove slot_moves.Release t = MayRelease t
+MayMove slot_moves.Report t = MayReport t
+MayMove (slot_moves.Pack k) t = MayPack t
+MayMove (slot_moves.Begin k) t = MayBegin k t
+
+-- it goes back once
+abbrev pub back_by : SlotMove → Option ℕ → Option ℕ
+back_by slot_moves.See back = back
+back_by (slot_moves.Rewind base) back = None
+back_by slot_moves.Release back = back
+back_by slot_moves.Report back = back
+back_by (slot_moves.Pack k) back = back
+back_by (slot_moves.Begin k) back = back
+
+abbrev pub with_back : Option ℕ → SlotState → SlotState
+with_back back x = record { node = x.node; box = x.box; back = back; since = x.since; able = x.able; doing = x.doing }
+
 -- only the agreement moves
-abbrev pub moved_in : Plan → CutState → SlotState → Option ℕ → Acted
-moved_in p cut x back = record { slot = renewed p cut x.node x.box back x.since; cut = cut; out = [] }
+abbrev pub moved_in : Plan → SlotState → SlotMove → CutState → Acted
+moved_in p x move cut = record {
+  slot = again p (shifted x.node.slot move cut) (with_back (back_by move x.back) x);
+  cut = shifted x.node.slot move cut;
+  out = [];
+}
 
 abbrev pub slot_moved_by : Setting → CutState → SlotState → Option SlotMove → Acted
 slot_moved_by s cut x None = record { slot = x; cut = cut; out = [] }
-slot_moved_by s cut x (Some slot_moves.See) = moved_in s.plan (seen_by x.node.slot cut) x x.back
-slot_moved_by s cut x (Some (slot_moves.Rewind base)) = moved_in s.plan (rewound_by x.node.slot base cut) x None
-slot_moved_by s cut x (Some slot_moves.Release) = moved_in s.plan (released_by x.node.slot cut) x x.back
-slot_moved_by s cut x (Some slot_moves.Report) = moved_in s.plan (reported_by x.node.slot cut) x x.back
+slot_moved_by s cut x (Some slot_moves.See) = moved_in s.plan x slot_moves.See cut
+slot_moved_by s cut x (Some (slot_moves.Rewind base)) = moved_in s.plan x (slot_moves.Rewind base) cut
+slot_moved_by s cut x (Some slot_moves.Release) = moved_in s.plan x slot_moves.Release cut
+slot_moved_by s cut x (Some slot_moves.Report) = moved_in s.plan x slot_moves.Report cut
 slot_moved_by s cut x (Some (slot_moves.Pack k)) = acted s.plan (packed_by x.node.slot cut) (node_packed s.plan s.script k x.node) x.box x.back Nothing
-slot_moved_by s cut x (Some (slot_moves.Begin k)) = moved_in s.plan (begun_by x.node.slot k cut) x x.back
+slot_moved_by s cut x (Some (slot_moves.Begin k)) = moved_in s.plan x (slot_moves.Begin k) cut
 
 abbrev pub slot_move : Plan → CutState → SlotState → Option SlotMove
 slot_move p cut x = move_of p cut.round x.node (stand cut x.node.slot) x.back x.since
@@ -375,16 +412,16 @@ has_cap sight = is_some sight.cap
 
 -- A move of the conductor is due where it wants one: a look only where some slot has news, a note where the slot
 -- reported in this round.
-abbrev pub conductor_due_by : WorldState → CutMove → Bool
-conductor_due_by w moves.None = false
-conductor_due_by w (moves.Look slot) = any_news w.cut w.conductor
-conductor_due_by w (moves.OpenRound floor) = true
-conductor_due_by w (moves.Note slot) = has_cap (sight_in w.cut slot)
-conductor_due_by w (moves.Agree taking) = true
-conductor_due_by w moves.Quiet = true
+abbrev pub move_due : CutState → ConductorState → CutMove → Bool
+move_due cut c moves.None = false
+move_due cut c (moves.Look slot) = any_news cut c
+move_due cut c (moves.OpenRound floor) = true
+move_due cut c (moves.Note slot) = has_cap (sight_in cut slot)
+move_due cut c (moves.Agree taking) = true
+move_due cut c moves.Quiet = true
 
 abbrev pub conductor_due : WorldState → Bool
-conductor_due w = takes_move w.cut (wanted w.conductor) && conductor_due_by w (wanted w.conductor)
+conductor_due w = takes_move w.cut (wanted w.conductor) && move_due w.cut w.conductor (wanted w.conductor)
 
 abbrev pub desk_event : WorldState → List Letter → Option Event
 desk_event w [] = if conductor_due w then Some events.ConductorMove else None

@@ -3,7 +3,8 @@
 ghost use Rattle.std.specs.Prelude.{◌≡◌, ◌==◌, ◌&&◌, ◌++◌, ◌∷◌, [], ℕ, length, true, OnOk, IfOk, Some, None};
 ghost use Rattle.chare_base.specs.Elements.{elements};
 ghost use Rattle.fault_script.specs.Lines.{faults_of};
-ghost use Rattle.iteration_agree.specs.Cuts.{HasSlot, CutState};
+ghost use Rattle.iteration_agree.specs.Cuts.{HasSlot, packed_by, slot_of};
+ghost use Rattle.iteration_agree.specs.Under.{MayPack};
 ghost use Rattle.node_core.specs.Keeps.{Fitted};
 ghost use Rattle.node_core.specs.Nodes.{first_running, node_packed, node_ran, out_of, outcome_of};
 ghost use Rattle.node_core.specs.Starts.{start_state};
@@ -11,7 +12,7 @@ ghost use Rattle.world_core.specs.declared.doing.Since.TheVariants.{Nothing};
 ghost use Rattle.world_core.specs.Moves.{move_of};
 ghost use Rattle.world_core.specs.Sound.{Served};
 ghost use Rattle.world_core.specs.Steps.{can_hear, can_move, can_run_on, setting};
-ghost use Rattle.world_core.specs.Worlds.{Acted, ables, again, back_after, does, doing_of, idle_doing, moved_in, ordered_after, renewed, resumed_after, since_after, slot_heard, slot_move, slot_moved, slot_moved_by, slot_put, slot_ran, stand};
+ghost use Rattle.world_core.specs.Worlds.{MayMove, ables, acted, back_by, run_due, shifted, with_back, again, back_after, does, doing_of, idle_doing, moved_in, ordered_after, renewed, resumed_after, since_after, slot_heard, slot_move, slot_moved, slot_moved_by, slot_put, slot_ran, stand};
 
 use crate::able::{first_able, mark, mark_by, reach_of, start_able};
 use crate::doing::{Doing, Since, SlotMove};
@@ -368,5 +369,128 @@ impl Slot {
                 Ok(Outbox::new(alloc))
             }
         }
+    }
+}
+
+impl Slot {
+    // Makes a move on the agreement that isn't a pack.
+    fn move_in(&mut self, due: SlotMove, cut: &mut Cut)
+        requires slot { HasSlot cut.old self.old.node.slot }
+        requires may { MayMove due (slot_of cut.old self.old.node.slot) }
+        ensures cut { cut.new ≡ shifted self.old.node.slot due cut.old }
+        ensures slot { self.new ≡ with_back (back_by due self.old.back) self.old }
+    {
+        let slot = self.node.slot();
+        match due {
+            SlotMove::See => {
+                cut.see(slot);
+            }
+            SlotMove::Rewind { base } => {
+                cut.rewind(slot, base);
+                self.back = None;
+            }
+            SlotMove::Release => cut.release(slot),
+            SlotMove::Report => {
+                cut.report(slot);
+            }
+            SlotMove::Pack { .. } => (),
+            SlotMove::Begin { k } => {
+                cut.begin(slot, k);
+            }
+        }
+    }
+
+    // Packs at an iteration that all its elements have completed.
+    fn pack(
+        &mut self,
+        alloc: Global,
+        plan: &Plan,
+        script: &Script,
+        k: u64,
+        cut: &mut Cut,
+    ) -> Result<Outbox, Memory>
+        requires fits { Fitted plan.now self.old.node }
+        requires slot { HasSlot cut.old self.old.node.slot }
+        requires may { MayPack (slot_of cut.old self.old.node.slot) }
+        ensures { IfOk result (λ out. record { slot = self.new; cut = cut.new; out = out } ≡ acted plan.now (packed_by self.old.node.slot cut.old) (node_packed plan.now (faults_of script.now) k self.old.node) self.old.box self.old.back Nothing) }
+    {
+        let slot = self.node.slot();
+        let out = self.node.pack(alloc, plan, script, k)?;
+        cut.pack(slot);
+        self.since = Since::Nothing;
+        self.renew(plan, cut)?;
+        Ok(out)
+    }
+}
+
+// The base to which a slot has to go back, after a letter.
+fn back_after(letter: &Letter, back: Option<u64>) -> Option<u64>
+    ensures { result ≡ back_after letter.now back }
+{
+    match letter {
+        Letter::Parcel { .. } => back,
+        Letter::Partial { .. } => back,
+        Letter::Total { .. } => back,
+        Letter::Piece { .. } => back,
+        Letter::VerdictOf { .. } => back,
+        Letter::Lend { .. } => back,
+        Letter::Take { iteration, .. } => Some(*iteration),
+        Letter::Restore { iteration, .. } => Some(*iteration),
+        Letter::Commit { .. } => back,
+        Letter::Resume { .. } => back,
+        Letter::Died { .. } => back,
+        Letter::Stop => back,
+    }
+}
+
+// Which orders a slot heard since it last packed, after a letter.
+fn since_after(letter: &Letter, since: Since) -> Since
+    ensures { result ≡ since_after letter.now since }
+{
+    match letter {
+        Letter::Parcel { .. } => since,
+        Letter::Partial { .. } => since,
+        Letter::Total { .. } => since,
+        Letter::Piece { .. } => since,
+        Letter::VerdictOf { .. } => since,
+        Letter::Lend { .. } => since,
+        Letter::Take { .. } => ordered_after(since),
+        Letter::Restore { .. } => ordered_after(since),
+        Letter::Commit { .. } => ordered_after(since),
+        Letter::Resume { .. } => resumed_after(since),
+        Letter::Died { .. } => since,
+        Letter::Stop => since,
+    }
+}
+
+fn ordered_after(since: Since) -> Since
+    ensures { result ≡ ordered_after since }
+{
+    match since {
+        Since::Nothing => Since::Ordered,
+        Since::Ordered => Since::Ordered,
+        Since::Resumed => Since::Resumed,
+    }
+}
+
+fn resumed_after(since: Since) -> Since
+    ensures { result ≡ resumed_after since }
+{
+    match since {
+        Since::Nothing => Since::Nothing,
+        Since::Ordered => Since::Resumed,
+        Since::Resumed => Since::Resumed,
+    }
+}
+
+// The letters of a turn.
+fn sent_by(alloc: Global, turn: Turn) -> Outbox
+    ensures { result ≡ out_of turn }
+{
+    match turn {
+        Turn::Ran { outbox, .. } => outbox,
+        Turn::Held => Outbox::new(alloc),
+        Turn::Awaits => Outbox::new(alloc),
+        Turn::Dies { .. } => Outbox::new(alloc),
     }
 }
