@@ -1,7 +1,6 @@
 -- Each event of a node leaves less to do, what it sends counted.
-use Rattle.std.proofs.Common.{◌≡◌, ℕ, zero, suc, ◌+◌, ◌-◌, ◌<◌, ◌≤◌, ℤ, Bool, true, false, cond, List, [], ◌∷◌, ◌++◌, length, map, refl, ap, sym, ◌∙◌, arith, subst, Option, Some, None}
-use Rattle.std.specs.Prelude.{◌==◌, ◌&&◌, IfSome, is_none, is_some, nat_le, slice_get, slice_index_or, slice_set}
-use Rattle.std.specs.List.{AllByRecursion}
+use Rattle.std.proofs.Common.{◌≡◌, ℕ, zero, suc, ◌+◌, ◌-◌, ◌<◌, ◌≤◌, ℤ, Bool, true, false, cond, List, [], ◌∷◌, length, map, refl, ap, sym, ◌∙◌, arith, Option, Some, None}
+use Rattle.std.specs.Prelude.{◌==◌, ◌&&◌, IfSome, is_none, is_some, nat_le, slice_get, slice_set}
 use Rattle.std.proofs.lemmas.Bool.{eq-eqb, eqb-true}
 use Rattle.std.proofs.lemmas.Option.{same_Some}
 use Rattle.chare_base.specs.declared.message.EntryId.{EntryId}
@@ -35,10 +34,9 @@ use Rattle.ref_messages.specs.declared.key.RefKey.{RefKey}
 use Rattle.ref_messages.specs.Queue.{message}
 use Rattle.node_core.specs.declared.piece.Held.{Held}
 use Rattle.node_core.specs.declared.turn.Sender.{Sender}
-use Rattle.node_core.specs.declared.turn.Turn.{Turn}
 use Rattle.node_core.specs.declared.turn.Turn.TheVariants as turns
 use Rattle.node_core.specs.Costs.{HearsLower, PacksLower, RunsLower, StartLeaves, body_left, contribution_cost, gathering_left, is_first, left_by, left_of, node_left, outcome_left, round_cost, sent_weight, share_weight, sharers, sharers_in, sum, times, to_pack, totals_left, weight}
-use Rattle.node_core.specs.Gatherings.{Gathering, Tallied, tallied}
+use Rattle.node_core.specs.Gatherings.{Tallied, tallied}
 use Rattle.node_core.specs.Keeps.{Alive, Keeps, element_of}
 use Rattle.node_core.specs.Nodes.{Body, Heard, NodeState, Passing, Ran, body_heard, body_packed, body_ran, body_ran_at, body_ran_by, body_turned, compared, contributed_to, idle_of, node_at, node_heard, node_heard_as, node_heard_by, node_packed, node_ran, out_of, outcome_of, pack_sends, partial_heard, partial_sent, passed, passed_one, piece_heard, piece_kept, piece_of, sender_of, share_heard, stands, taken_at, taken_by, to_slot, total_heard, total_sent, total_taken, turn_of, unmoved, verdict_sent, with_mail, with_tallied}
 use Rattle.node_core.specs.Rosters.{count_of, node_count, nodes_with, number_in, seat_of, sharers_of}
@@ -49,7 +47,7 @@ use Rattle.node_core.proofs.Lists.{get_mapped, got_at}
 use Rattle.node_core.proofs.Seats.{numbered, sharers_are}
 use Rattle.node_core.proofs.Sending.{Ranked, ranked_there}
 use Rattle.node_core.proofs.Sums.{sum_append, sum_map, sum_ones, sum_set}
-use Rattle.node_core.proofs.Weighing.{first_left, kept_left, later_none, sent_left, tallied_left}
+use Rattle.node_core.proofs.Weighing.{first_left, later_none, sent_left, tallied_left}
 
 -- an element lives where it is a member
 lives_from : (n : ℕ) (place : List ℕ) (j i e : ℕ) → slice_get (members_from n place j) i ≡ Some e → (at : ℕ) × (e ≡ n + at) × (node_at place at ≡ j)
