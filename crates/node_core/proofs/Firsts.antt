@@ -29,6 +29,7 @@ use Rattle.node_core.specs.Turns as turns_of
 use Rattle.node_core.proofs.Lists.{get_mapped, got_at}
 use Rattle.node_core.proofs.Seats.{seat_back}
 use Rattle.node_core.proofs.Turning.{none_is, second}
+use Rattle.chare_base.specs.Elements.{need_at}
 
 -- an object that can run, by its place
 pub record CanRun (p : Plan) (limit : ℕ) (all : List Progress) (e : ElementId) : Type 0 where
@@ -56,8 +57,8 @@ first_ready tells free p o fits first = by (ready p o) refl
     by (ready_as.Await port) is =
         let w : Waits p o port = tells.await p o port fits is in
         let at : w.at ≡ 0 = same_Some w.at 0 (sym w.step ∙ first) in
-        let need : Rattle.chare_base.specs.Elements.need_at p o.element.0 w.at w.first ≡ needs.Port port = ap (λ x. option_map_or (λ (q : Part). q.need) x needs.Nothing) w.there ∙ w.need in
-        absurd (let q : needs.Nothing ≡ needs.Port port = sym (free p o.element.0 w.first) ∙ ap (λ s. Rattle.chare_base.specs.Elements.need_at p o.element.0 s w.first) (sym at) ∙ need in cc)
+        let need : need_at p o.element.0 w.at w.first ≡ needs.Port port = ap (λ x. option_map_or (λ (q : Part). q.need) x needs.Nothing) w.there ∙ w.need in
+        absurd (let q : needs.Nothing ≡ needs.Port port = sym (free p o.element.0 w.first) ∙ ap (λ s. need_at p o.element.0 s w.first) (sym at) ∙ need in cc)
 
 goes_on : (p : Plan) (o : Progress) → is_step (ready p o) ≡ true → IsSome (turns_of.goes p o).spot
 goes_on p o h = by (ready p o) h

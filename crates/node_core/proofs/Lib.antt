@@ -32,3 +32,5 @@ pub mod Lowering
 pub mod Firsts
 pub mod Loads
 pub mod Loaded
+pub mod Logs
+pub mod Sharers
