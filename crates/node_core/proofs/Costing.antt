@@ -1,5 +1,5 @@
 -- What a turn of an object costs: what it leaves less pays for what it sends.
-use Rattle.std.proofs.Common.{◌≡◌, ℕ, zero, suc, ◌+◌, ◌-◌, ◌<◌, ◌≤◌, Bool, true, false, cond, List, [], ◌∷◌, ◌++◌, length, refl, ap, sym, ◌∙◌, arith, subst, Option, Some, None, IsSome}
+use Rattle.std.proofs.Common.{◌≡◌, ℕ, zero, suc, ◌+◌, ◌-◌, ◌<◌, ◌≤◌, Bool, true, false, cond, List, [], ◌∷◌, ◌++◌, length, refl, ap, sym, ◌∙◌, arith, Option, Some, None, IsSome, ℤ}
 use Rattle.std.specs.Prelude.{◌==◌, slice_get, slice_set}
 use Rattle.std.specs.Option.{option_map_or}
 use Rattle.std.proofs.lemmas.Bool.{eqb-true}
@@ -32,6 +32,7 @@ use Rattle.node_core.specs.Turns.{Turned, turned}
 use Rattle.node_core.proofs.Pasts.{done_now}
 use Rattle.node_core.proofs.Sums.{sum_append}
 use Rattle.node_core.proofs.Turned.{turn_by}
+use Rattle.chare_base.specs.declared.plan.Step.{Step}
 
 -- hearing what was sent
 abbrev pub outgoing_cost : Plan → List ℕ → ℕ → Outgoing → ℕ
@@ -57,7 +58,7 @@ module _ (p : Plan) (place : List ℕ) (e : ℕ) where
       sends payload = omega (arith, sum_append (outgoing_cost p place e) t.sent (parcels entry (target_of p entry.0 e) payload), parcels_few entry (target_of p entry.0 e) payload)
   step_costs s (Stmt-F.Contribute r value) t = gives _
     where
-      gives : (v : Rattle.std.proofs.Common.ℤ) → Cost (t.sent ++ outgoing.Contribution r v ∷ []) ≤ Cost t.sent + contribution_cost p place e r.0
+      gives : (v : ℤ) → Cost (t.sent ++ outgoing.Contribution r v ∷ []) ≤ Cost t.sent + contribution_cost p place e r.0
       gives v = omega (arith, sum_append (outgoing_cost p place e) t.sent (outgoing.Contribution r v ∷ []))
 
   acts_cost : (stmts : List Stmt) (t : Top) → Cost (top_acts p e stmts t).sent ≤ Cost t.sent + sum (stmt_cost p place e) stmts
@@ -172,9 +173,9 @@ module _ (p : Plan) (place : List ℕ) where
       first_round : (e m : ℕ) → length (steps_of p e) ≡ m → left_in p place e none_done 0 ≤ round_cost p place e
       first_round e zero is = no_steps (steps_of p e) refl
         where
-          no_steps : (steps : List Rattle.chare_base.specs.declared.plan.Step.Step) → steps_of p e ≡ steps → left_in p place e none_done 0 ≤ round_cost p place e
+          no_steps : (steps : List Step) → steps_of p e ≡ steps → left_in p place e none_done 0 ≤ round_cost p place e
           no_steps [] same =
-              let none : parts_at p e 0 ≡ [] = ap (λ l. option_map_or (λ (s : Rattle.chare_base.specs.declared.plan.Step.Step). s.parts) (slice_get l 0) []) same in
+              let none : parts_at p e 0 ≡ [] = ap (λ l. option_map_or (λ (s : Step). s.parts) (slice_get l 0) []) same in
               let zero_parts : parts_cost p place e none_done 0 (parts_at p e 0) ≡ 0 = ap (parts_cost p place e none_done 0) none in
               let gone : length (steps_of p e) - 1 ≡ 0 = omega (arith, is) in
               omega (arith, zero_parts, ap (steps_cost p place e 1) gone)

@@ -1,18 +1,16 @@
 -- The element that is named as the first that can run runs.
-use Rattle.std.proofs.Common.{◌≡◌, ℕ, zero, suc, ◌<◌, Bool, true, false, cond, List, [], ◌∷◌, refl, ap, sym, ◌∙◌, Option, Some, None, IsSome}
+use Rattle.std.proofs.Common.{◌≡◌, ℕ, suc, ◌<◌, Bool, true, false, cond, List, [], ◌∷◌, refl, ap, sym, ◌∙◌, Option, Some, None, IsSome}
 use Rattle.std.specs.Prelude.{◌&&◌, IfSome, is_none, nat_lt, slice_get}
 use Rattle.std.specs.Option.{option_map_or}
 use Rattle.std.proofs.lemmas.Bool.{ltb-true}
 use Rattle.std.proofs.lemmas.Option.{same_Some}
 use Rattle.chare_base.specs.declared.message.Need.TheVariants as needs
-use Rattle.chare_base.specs.declared.message.Port.{Port}
 use Rattle.chare_base.specs.declared.plan.ElementId.{ElementId}
 use Rattle.chare_base.specs.declared.plan.Part.{Part}
 use Rattle.chare_base.specs.declared.plan.Plan.{Plan}
 use Rattle.chare_base.specs.declared.plan.Spot.{Spot}
 use Rattle.chare_base.specs.Flip.{Flip}
 use Rattle.chare_base.specs.Laws.{FirstStepIsFree}
-use Rattle.fault_script.specs.declared.fault.Fault.{Fault}
 use Rattle.letter_post.specs.declared.letter.Sent.{Sent}
 use Rattle.letter_post.specs.Stamps.{lines_of}
 use Rattle.object_steps.specs.declared.ready.Ready.{Ready}
@@ -23,14 +21,15 @@ use Rattle.object_steps.specs.Turns.{ReadyTells, Waits}
 use Rattle.node_core.specs.declared.turn.Turn.{Turn}
 use Rattle.node_core.specs.declared.turn.Turn.TheVariants as turns
 use Rattle.node_core.specs.Costs.{FirstRuns, Runs}
-use Rattle.node_core.specs.Keeps.{Alive, Keeps, element_of}
-use Rattle.node_core.specs.Nodes.{Body, NodeState, Passing, awake, body_ran, body_ran_at, body_ran_by, body_turned, first_running, first_running_of, node_ran, node_ran_by, passed, sender_of, stands, turn_of}
+use Rattle.node_core.specs.Keeps.{Alive, element_of}
+use Rattle.node_core.specs.Nodes.{Body, Passing, awake, body_ran, body_ran_at, body_ran_by, first_running, first_running_of, node_ran, node_ran_by, passed, sender_of, stands, turn_of}
 use Rattle.node_core.specs.Rosters.{seat_of}
 use Rattle.node_core.specs.Turns.{Turned, begins, can_run, goes_at, is_step, stays, turned}
 use Rattle.node_core.specs.Turns as turns_of
 use Rattle.node_core.proofs.Lists.{get_mapped, got_at}
 use Rattle.node_core.proofs.Seats.{seat_back}
 use Rattle.node_core.proofs.Turning.{none_is, second}
+use Rattle.chare_base.specs.Elements.{need_at}
 
 -- an object that can run, by its place
 pub record CanRun (p : Plan) (limit : ℕ) (all : List Progress) (e : ElementId) : Type 0 where
@@ -58,8 +57,8 @@ first_ready tells free p o fits first = by (ready p o) refl
     by (ready_as.Await port) is =
         let w : Waits p o port = tells.await p o port fits is in
         let at : w.at ≡ 0 = same_Some w.at 0 (sym w.step ∙ first) in
-        let need : Rattle.chare_base.specs.Elements.need_at p o.element.0 w.at w.first ≡ needs.Port port = ap (λ x. option_map_or (λ (q : Part). q.need) x needs.Nothing) w.there ∙ w.need in
-        absurd (let q : needs.Nothing ≡ needs.Port port = sym (free p o.element.0 w.first) ∙ ap (λ s. Rattle.chare_base.specs.Elements.need_at p o.element.0 s w.first) (sym at) ∙ need in cc)
+        let need : need_at p o.element.0 w.at w.first ≡ needs.Port port = ap (λ x. option_map_or (λ (q : Part). q.need) x needs.Nothing) w.there ∙ w.need in
+        absurd (let q : needs.Nothing ≡ needs.Port port = sym (free p o.element.0 w.first) ∙ ap (λ s. need_at p o.element.0 s w.first) (sym at) ∙ need in cc)
 
 goes_on : (p : Plan) (o : Progress) → is_step (ready p o) ≡ true → IsSome (turns_of.goes p o).spot
 goes_on p o h = by (ready p o) h

@@ -1,5 +1,5 @@
 -- What was sent stays sent, and what is done stays done, as more is sent.
-use Rattle.std.proofs.Common.{◌≡◌, ℕ, inl, inr, List, ◌++◌, Some}
+use Rattle.std.proofs.Common.{ℕ, inl, inr, List, ◌++◌}
 use Rattle.std.specs.Prelude.{◌⊎◌}
 use Rattle.chare_base.specs.declared.plan.Plan.{Plan}
 use Rattle.letter_post.specs.declared.letter.Letter.{Letter}

@@ -1,7 +1,6 @@
 -- Each event of a node leaves less to do, what it sends counted.
-use Rattle.std.proofs.Common.{◌≡◌, ℕ, zero, suc, ◌+◌, ◌-◌, ◌<◌, ◌≤◌, ℤ, Bool, true, false, cond, List, [], ◌∷◌, ◌++◌, length, map, refl, ap, sym, ◌∙◌, arith, subst, Option, Some, None}
-use Rattle.std.specs.Prelude.{◌==◌, ◌&&◌, IfSome, is_none, is_some, nat_le, slice_get, slice_index_or, slice_set}
-use Rattle.std.specs.List.{AllByRecursion}
+use Rattle.std.proofs.Common.{◌≡◌, ℕ, zero, suc, ◌+◌, ◌-◌, ◌<◌, ◌≤◌, ℤ, Bool, true, false, cond, List, [], ◌∷◌, length, map, refl, ap, sym, ◌∙◌, arith, Option, Some, None}
+use Rattle.std.specs.Prelude.{◌==◌, ◌&&◌, IfSome, is_none, is_some, nat_le, slice_get, slice_set}
 use Rattle.std.proofs.lemmas.Bool.{eq-eqb, eqb-true}
 use Rattle.std.proofs.lemmas.Option.{same_Some}
 use Rattle.chare_base.specs.declared.message.EntryId.{EntryId}
@@ -35,13 +34,12 @@ use Rattle.ref_messages.specs.declared.key.RefKey.{RefKey}
 use Rattle.ref_messages.specs.Queue.{message}
 use Rattle.node_core.specs.declared.piece.Held.{Held}
 use Rattle.node_core.specs.declared.turn.Sender.{Sender}
-use Rattle.node_core.specs.declared.turn.Turn.{Turn}
 use Rattle.node_core.specs.declared.turn.Turn.TheVariants as turns
 use Rattle.node_core.specs.Costs.{HearsLower, PacksLower, RunsLower, StartLeaves, body_left, contribution_cost, gathering_left, is_first, left_by, left_of, node_left, outcome_left, round_cost, sent_weight, share_weight, sharers, sharers_in, sum, times, to_pack, totals_left, weight}
-use Rattle.node_core.specs.Gatherings.{Gathering, Tallied, tallied}
+use Rattle.node_core.specs.Gatherings.{Tallied, tallied}
 use Rattle.node_core.specs.Keeps.{Alive, Keeps, element_of}
-use Rattle.node_core.specs.Nodes.{Body, Heard, NodeState, Passing, Ran, body_heard, body_packed, body_ran, body_ran_at, body_ran_by, body_turned, compared, contributed_to, idle_of, node_at, node_heard, node_heard_as, node_heard_by, node_packed, node_ran, out_of, outcome_of, pack_sends, partial_heard, partial_sent, passed, passed_one, piece_heard, piece_kept, piece_of, sender_of, share_heard, stands, taken_at, taken_by, to_slot, total_heard, total_sent, total_taken, turn_of, unmoved, verdict_sent, with_mail, with_tallied}
-use Rattle.node_core.specs.Rosters.{count_of, node_count, nodes_with, number_in, seat_of, sharers_of}
+use Rattle.node_core.specs.Nodes.{Body, Heard, NodeState, Passing, Ran, body_heard, body_ran, body_ran_at, body_ran_by, body_turned, compared, contributed_to, idle_of, node_at, node_heard, node_heard_as, node_packed, node_ran, out_of, outcome_of, partial_heard, partial_sent, passed, passed_one, piece_heard, piece_kept, piece_of, sender_of, share_heard, stands, taken_at, taken_by, to_slot, total_heard, total_sent, total_taken, turn_of, unmoved, verdict_sent, with_mail, with_tallied, node_packed_by, node_heard_by, parcel_heard, node_ran_by, parcel_of, total_to, is_new}
+use Rattle.node_core.specs.Rosters.{count_of, number_in, seat_of, sharers_of, Roster}
 use Rattle.node_core.specs.Starts.{start_state, starts}
 use Rattle.node_core.specs.Turns.{Turned, begins, takes, turned}
 use Rattle.node_core.proofs.Costing.{outgoing_cost, turn_pays}
@@ -49,7 +47,7 @@ use Rattle.node_core.proofs.Lists.{get_mapped, got_at}
 use Rattle.node_core.proofs.Seats.{numbered, sharers_are}
 use Rattle.node_core.proofs.Sending.{Ranked, ranked_there}
 use Rattle.node_core.proofs.Sums.{sum_append, sum_map, sum_ones, sum_set}
-use Rattle.node_core.proofs.Weighing.{first_left, kept_left, later_none, sent_left, tallied_left}
+use Rattle.node_core.proofs.Weighing.{first_left, later_none, sent_left, tallied_left}
 
 -- an element lives where it is a member
 lives_from : (n : ℕ) (place : List ℕ) (j i e : ℕ) → slice_get (members_from n place j) i ≡ Some e → (at : ℕ) × (e ≡ n + at) × (node_at place at ≡ j)
@@ -77,7 +75,7 @@ first_at (x ∷ more) e h = eq-eqb x e (same_Some x e h)
 
 -- ---- what a turn sends
 
-module _ (p : Plan) (script : List Fault) (place : List ℕ) (roster : Rattle.node_core.specs.Rosters.Roster) (s : Sender) (i e : ℕ) (at : Ranked p place roster s i e) where
+module _ (p : Plan) (script : List Fault) (place : List ℕ) (roster : Roster) (s : Sender) (i e : ℕ) (at : Ranked p place roster s i e) where
   abbrev j : ℕ
   j = s.slot.node
 
@@ -123,7 +121,7 @@ module _ (p : Plan) (script : List Fault) (place : List ℕ) (roster : Rattle.no
           omega (arith, less, first_pays r.0, partial_weighs r t.total, sum_append (sent_weight p place) on.out (partial_sent s r t.total))
 
   one_cost : (m : Outgoing) (on : Passing) → Weight (passed_one p place roster s m on) ≤ Weight on + outgoing_cost p place e m
-  one_cost (outgoing.Parcel entry to payload) on = omega (arith, sum_append (sent_weight p place) on.out (Rattle.node_core.specs.Nodes.parcel_of place s entry to payload ∷ []))
+  one_cost (outgoing.Parcel entry to payload) on = omega (arith, sum_append (sent_weight p place) on.out (parcel_of place s entry to payload ∷ []))
   one_cost (outgoing.Contribution r v) on = contributed_cost r v on (reduction_of p r.0)
 
   pub passed_cost : (sent : List Outgoing) (on : Passing) → Weight (passed p place roster s sent on) ≤ Weight on + sum (outgoing_cost p place e) sent
@@ -205,8 +203,8 @@ pub runs_lower : ObjectsFollow → ReadyTells → RunsLower
 unfolding node_ran node_left outcome_left
 runs_lower law tells p script place limit e n f spot out keeps is = by n.body refl keeps.body is
   where
-    by : (body : Option Body) → n.body ≡ body → IfSome body (Alive p script place n) → (Rattle.node_core.specs.Nodes.node_ran_by p script place limit e n body).turn ≡ turns.Ran f spot out →
-        outcome_left p place (outcome_of (Rattle.node_core.specs.Nodes.node_ran_by p script place limit e n body)) < left_by p place n.slot.node n.body
+    by : (body : Option Body) → n.body ≡ body → IfSome body (Alive p script place n) → (node_ran_by p script place limit e n body).turn ≡ turns.Ran f spot out →
+        outcome_left p place (outcome_of (node_ran_by p script place limit e n body)) < left_by p place n.slot.node n.body
     by None same alive ran = absurd (let q : turns.Awaits ≡ turns.Ran f spot out = ran in cc)
     by (Some b) same alive ran =
         let whole : left_by p place n.slot.node n.body ≡ body_left p place n.slot.node b = ap (left_by p place n.slot.node) same in
@@ -237,14 +235,14 @@ packs_lower p script place k n b is none = by (n.slot.replica == 1)
     three : to_pack b.fresh ≡ 3
     three = ap to_pack none
 
-    packed : outcome_left p place (Rattle.node_core.specs.Nodes.node_packed_by p script k n n.body) ≡ outcome_left p place (Rattle.node_core.specs.Nodes.node_packed_by p script k n (Some b))
-    packed = ap (λ o. outcome_left p place (Rattle.node_core.specs.Nodes.node_packed_by p script k n o)) is
+    packed : outcome_left p place (node_packed_by p script k n n.body) ≡ outcome_left p place (node_packed_by p script k n (Some b))
+    packed = ap (λ o. outcome_left p place (node_packed_by p script k n o)) is
 
     light : (c : Bool) → sum (sent_weight p place) (cond c (to_slot 0 n.slot.node (letters.Piece n.last.stamp mine) ∷ []) (compared p n.last.stamp (Some mine) b.other)) ≤ 2
     light true = omega arith
     light false = let few = compared_light p place n.last.stamp (Some mine) b.other in omega (arith, few)
 
-    by : (c : Bool) → outcome_left p place (Rattle.node_core.specs.Nodes.node_packed_by p script k n n.body) < left_by p place n.slot.node n.body
+    by : (c : Bool) → outcome_left p place (node_packed_by p script k n n.body) < left_by p place n.slot.node n.body
     by c = let few = light (n.slot.replica == 1) in omega (arith, packed, whole, three, few)
 
 -- ---- letters
@@ -317,7 +315,7 @@ module _ (p : Plan) (script : List Fault) (place : List ℕ) (n : NodeState) (ke
           sends : (total : Option ℤ) → sum (sent_weight p place) (total_sent n.slot.replica n.last.stamp r k (sharers_of n.roster x.owner) total) ≡ sent_left weigh r.0 total
           sends None = refl
           sends (Some w) =
-              sum_ones (sent_weight p place) (Rattle.node_core.specs.Nodes.total_to n.slot.replica n.last.stamp r k w) (sharers_of n.roster x.owner) (λ j. refl) ∙ ap (λ l. length l) own
+              sum_ones (sent_weight p place) (total_to n.slot.replica n.last.stamp r k w) (sharers_of n.roster x.owner) (λ j. refl) ∙ ap (λ l. length l) own
 
           pays : (m : ℕ) → number_in 0 (sharers_of n.roster x.owner) node ≡ Some m → suc (first_left weigh r.0 m) ≤ share_weight p place r.0 node
           pays (suc m) at = let none = later_none weigh r.0 m in omega (arith, none)
@@ -327,7 +325,7 @@ module _ (p : Plan) (script : List Fault) (place : List ℕ) (n : NodeState) (ke
               omega (arith, cost)
 
   piece_hears : (stamp : Stamp) (piece : Piece) → Hears (piece_heard p n.last.stamp n.slot.node stamp piece b) 2
-  piece_hears stamp piece = by (piece.node == n.slot.node && Rattle.node_core.specs.Nodes.is_new stamp piece b.other)
+  piece_hears stamp piece = by (piece.node == n.slot.node && is_new stamp piece b.other)
     where
       held : Held
       held = record { stamp = stamp; piece = piece }
@@ -338,7 +336,7 @@ module _ (p : Plan) (script : List Fault) (place : List ℕ) (n : NodeState) (ke
 
   letter_hears : (letter : Letter) → Hears (body_heard p script place n.slot n.last.stamp n.roster b letter) (weight p place letter)
   letter_hears (letters.Parcel stamp entry k to payload) =
-      stamped stamp (Rattle.node_core.specs.Nodes.parcel_heard n.roster k entry to payload b) 1 (omega arith) (mail_hears (taken_at k entry payload b.objects (seat_of n.roster to.0)) (taken_left p place k entry payload b.objects (seat_of n.roster to.0)))
+      stamped stamp (parcel_heard n.roster k entry to payload b) 1 (omega arith) (mail_hears (taken_at k entry payload b.objects (seat_of n.roster to.0)) (taken_left p place k entry payload b.objects (seat_of n.roster to.0)))
   letter_hears (letters.Partial stamp r k node value) =
       stamped stamp (partial_heard n.roster n.slot.replica n.last.stamp r k node value b (reduction_of p r.0)) (share_weight p place r.0 node) (omega arith) (share_hears r k node value (reduction_of p r.0) refl)
   letter_hears (letters.Total stamp r k value) = stamped stamp (total_heard p k r value b (reduction_of p r.0)) 1 (omega arith) (total_hears k r value (reduction_of p r.0))
@@ -352,7 +350,7 @@ module _ (p : Plan) (script : List Fault) (place : List ℕ) (n : NodeState) (ke
   letter_hears (letters.Died stamp slot line) = unmoved_hears 1 (omega arith)
   letter_hears letters.Stop = unmoved_hears 1 (omega arith)
 
-some_weight : (p : Plan) (place : List ℕ) (letter : Letter) → 0 < weight p place letter
+pub some_weight : (p : Plan) (place : List ℕ) (letter : Letter) → 0 < weight p place letter
 some_weight p place (letters.Parcel stamp entry k to payload) = omega arith
 some_weight p place (letters.Partial stamp r k node value) = omega arith
 some_weight p place (letters.Total stamp r k value) = omega arith

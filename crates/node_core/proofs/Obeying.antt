@@ -13,26 +13,20 @@ use Rattle.chare_eval.specs.Fold.{fold}
 use Rattle.chare_eval.specs.Later.{LaterFlipsDecideInside}
 use Rattle.chare_eval.specs.Laws.{EarlierFlipsDecide, flips_before}
 use Rattle.fault_script.specs.declared.fault.Fault.{Fault}
-use Rattle.letter_post.specs.declared.letter.BoxId.TheVariants as boxes
-use Rattle.letter_post.specs.declared.letter.Letter.{Letter}
 use Rattle.letter_post.specs.declared.letter.Letter.TheVariants as letters
-use Rattle.letter_post.specs.declared.letter.Sent.{Sent}
 use Rattle.letter_post.specs.declared.order.LastOrder.{LastOrder}
 use Rattle.letter_post.specs.declared.stamp.Stamp.{Stamp}
 use Rattle.letter_post.specs.Orders.{FollowsBy, GoesBack, Order, TakesBase, next_by, order_at, stamp_in}
 use Rattle.letter_post.specs.Orders as orders
 use Rattle.letter_post.specs.Stamps.{lines_of}
-use Rattle.letter_post.specs.Truth.{Holds, IsPiece, Says, node_records}
+use Rattle.letter_post.specs.Truth.{Says}
 use Rattle.object_steps.specs.Laws.{Follows, ObjectsFollow}
-use Rattle.object_steps.specs.Objects.{Progress}
 use Rattle.pup_state.specs.declared.piece.Piece.{Piece}
 use Rattle.node_core.specs.declared.piece.Held.{Held}
 use Rattle.node_core.specs.Keeps.{Alive, AllAt, IsHeld, IsPieceOf, Keeps, KeepsOn, OrdersRest, RestsAt, element_of}
 use Rattle.node_core.specs.Loads.{LoadsBack, loaded, opened}
-use Rattle.node_core.specs.Nodes.{Body, NodeState, Obeyed, Outcome, all_at_of, awakened, begun_at, begun_by, begun_with, committed, committed_with, node_from, node_heard, obeyed, obeyed_by, quietly, restored, resumed, sent_again, taken_up, to_slot, with_base, with_obeyed}
-use Rattle.node_core.specs.Turns.{is_at}
+use Rattle.node_core.specs.Nodes.{Body, NodeState, Obeyed, all_at_of, awakened, begun_at, begun_by, begun_with, committed, committed_with, node_from, node_heard, obeyed, obeyed_by, quietly, restored, sent_again, taken_up, to_slot, with_base, with_obeyed}
 use Rattle.node_core.proofs.Keeping.{all_at_each}
-use Rattle.node_core.proofs.Lists.{if_some}
 use Rattle.node_core.proofs.Rebased.{all_follow_over, gatherings_over, piece_over, same_before, totals_over}
 use Rattle.node_core.proofs.Turning.{first, second}
 

@@ -1,11 +1,11 @@
 -- What gathering a contribution costs.
-use Rattle.std.proofs.Common.{◌≡◌, ℕ, zero, suc, ◌+◌, ◌≤◌, ℤ, Bool, true, false, cond, List, [], ◌∷◌, length, refl, ap, sym, ◌∙◌, arith, Option, Some, None}
-use Rattle.std.specs.Prelude.{◌==◌, ◌&&◌, nat_lt, is_none, is_some, replicate, slice_set}
+use Rattle.std.proofs.Common.{◌≡◌, ℕ, zero, suc, ◌+◌, ◌≤◌, ℤ, Bool, true, false, cond, List, [], ◌∷◌, length, refl, ap, arith, Option, Some, None}
+use Rattle.std.specs.Prelude.{◌==◌, ◌&&◌, nat_lt, is_none, is_some, slice_set}
 use Rattle.std.specs.List.{list_all}
 use Rattle.std.proofs.lemmas.Bool.{eqb-true}
 use Rattle.chare_base.specs.declared.message.ReductionId.{ReductionId}
 use Rattle.chare_base.specs.declared.plan.How.{How}
-use Rattle.object_steps.specs.Partial.{Gathered, given_at, total_of, whole, with_given}
+use Rattle.object_steps.specs.Partial.{given_at, total_of, whole, with_given}
 use Rattle.node_core.specs.Costs.{sum}
 use Rattle.node_core.specs.Gatherings.{Gathering, Tallied, counted, gathering, given_to, is_of, settled, settled_by, tallied, with_first}
 use Rattle.node_core.proofs.Turning.{first}

@@ -1,6 +1,6 @@
 //! Orders: what each leaves of a slot's node.
 
-ghost use Rattle.std.specs.Prelude.{◌≡◌, length, None, if◌then◌else◌, IfOk};
+ghost use Rattle.std.specs.Prelude.{◌≡◌, ◌==◌, length, None, if◌then◌else◌, IfOk};
 ghost use Rattle.chare_base.specs.Elements.{elements};
 ghost use Rattle.letter_post.specs.Orders.{order_of};
 ghost use Rattle.node_core.specs.Nodes.{begun_at, committed, committed_with, obeyed_as, quietly, restored, resumed, taken_up, with_base};
@@ -38,30 +38,19 @@ pub(crate) fn obey<M: Placement>(
             stamp,
             iteration: k,
             live,
-        } => {
-            let ours = stamp.replica == slot.replica;
-            *body = restore(alloc, plan, map, ours, k, live, body.take())?;
-            Ok(Outbox::new(alloc))
-        }
+        } => restore(alloc, plan, map, slot, stamp, k, live, body),
         Letter::Commit {
             stamp,
             iteration: k,
             live,
-        } => {
-            *body = commit(stamp.replica == slot.replica, k, live, body.take());
-            Ok(Outbox::new(alloc))
-        }
+        } => commit(alloc, slot, stamp, k, live, body),
         Letter::Take {
             stamp,
             iteration: k,
             live,
             piece,
-        } => {
-            let ours = stamp.replica == slot.replica;
-            *body = take_up(alloc, plan, map, slot.node, ours, k, live, piece)?;
-            Ok(Outbox::new(alloc))
-        }
-        Letter::Resume { stamp } => resume(alloc, slot, own, stamp.replica == slot.replica, body),
+        } => take(alloc, plan, map, slot, stamp, k, live, piece, body),
+        Letter::Resume { stamp } => resume(alloc, slot, own, stamp, body),
         Letter::Parcel { .. } => Ok(Outbox::new(alloc)),
         Letter::Partial { .. } => Ok(Outbox::new(alloc)),
         Letter::Total { .. } => Ok(Outbox::new(alloc)),
@@ -78,17 +67,34 @@ fn restore<M: Placement>(
     alloc: Global,
     plan: &Plan,
     map: &M,
-    ours: bool,
+    slot: SlotId,
+    stamp: Stamp,
+    k: u64,
+    live: LineSet,
+    body: &mut Option<Live>,
+) -> Result<Outbox, Memory>
+    requires { length (M.place map.now) ≡ elements plan.now }
+    ensures { IfOk result (λ out. record { body = body.new; out = out } ≡ (if stamp.replica == slot.replica then quietly (restored plan.now (M.place map.now) k live body.old) else quietly None)) }
+{
+    if stamp.replica != slot.replica {
+        *body = None;
+        return Ok(Outbox::new(alloc));
+    }
+    *body = restored(alloc, plan, map, k, live, body.take())?;
+    Ok(Outbox::new(alloc))
+}
+
+fn restored<M: Placement>(
+    alloc: Global,
+    plan: &Plan,
+    map: &M,
     k: u64,
     live: LineSet,
     body: Option<Live>,
 ) -> Result<Option<Live>, Memory>
     requires { length (M.place map.now) ≡ elements plan.now }
-    ensures { IfOk result (λ b. b ≡ (if ours then restored plan.now (M.place map.now) k live body else None)) }
+    ensures { IfOk result (λ b. b ≡ restored plan.now (M.place map.now) k live body) }
 {
-    if !ours {
-        return Ok(None);
-    }
     match body {
         None => Ok(None),
         Some(b) => begin_at(alloc, plan, map, k, live, b.base, b.other),
@@ -96,22 +102,40 @@ fn restore<M: Placement>(
 }
 
 // At a piece that came with the order.
-fn take_up<M: Placement>(
+fn take<M: Placement>(
+    alloc: Global,
+    plan: &Plan,
+    map: &M,
+    slot: SlotId,
+    stamp: Stamp,
+    k: u64,
+    live: LineSet,
+    piece: Piece,
+    body: &mut Option<Live>,
+) -> Result<Outbox, Memory>
+    requires { length (M.place map.now) ≡ elements plan.now }
+    ensures { IfOk result (λ out. record { body = body.new; out = out } ≡ (if stamp.replica == slot.replica then quietly (taken_up plan.now (M.place map.now) slot.node k live piece) else quietly None)) }
+{
+    if stamp.replica != slot.replica {
+        *body = None;
+        return Ok(Outbox::new(alloc));
+    }
+    *body = taken_up(alloc, plan, map, slot.node, k, live, piece)?;
+    Ok(Outbox::new(alloc))
+}
+
+fn taken_up<M: Placement>(
     alloc: Global,
     plan: &Plan,
     map: &M,
     node: u16,
-    ours: bool,
     k: u64,
     live: LineSet,
     piece: Piece,
 ) -> Result<Option<Live>, Memory>
     requires { length (M.place map.now) ≡ elements plan.now }
-    ensures { IfOk result (λ b. b ≡ (if ours then taken_up plan.now (M.place map.now) node k live piece else None)) }
+    ensures { IfOk result (λ b. b ≡ taken_up plan.now (M.place map.now) node k live piece) }
 {
-    if !ours {
-        return Ok(None);
-    }
     if piece.node != node {
         return Ok(None);
     }
@@ -151,19 +175,34 @@ fn begin_at<M: Placement>(
 }
 
 // At the fresh piece.
-fn commit(ours: bool, k: u64, live: LineSet, body: Option<Live>) -> Option<Live>
-    ensures { result ≡ (if ours then committed k live body else None) }
+fn commit(
+    alloc: Global,
+    slot: SlotId,
+    stamp: Stamp,
+    k: u64,
+    live: LineSet,
+    body: &mut Option<Live>,
+) -> Result<Outbox, Memory>
+    ensures { IfOk result (λ out. record { body = body.new; out = out } ≡ (if stamp.replica == slot.replica then quietly (committed k live body.old) else quietly None)) }
 {
-    if !ours {
-        return None;
+    if stamp.replica != slot.replica {
+        *body = None;
+        return Ok(Outbox::new(alloc));
     }
+    *body = committed(k, live, body.take());
+    Ok(Outbox::new(alloc))
+}
+
+fn committed(k: u64, live: LineSet, body: Option<Live>) -> Option<Live>
+    ensures { result ≡ committed k live body }
+{
     match body {
         None => None,
-        Some(b) => commit_body(k, live, b),
+        Some(b) => committed_body(k, live, b),
     }
 }
 
-fn commit_body(k: u64, live: LineSet, mut body: Live) -> Option<Live>
+fn committed_body(k: u64, live: LineSet, mut body: Live) -> Option<Live>
     ensures { result ≡ committed_with k live body body.fresh }
 {
     match body.fresh.take() {
@@ -196,12 +235,12 @@ fn resume(
     alloc: Global,
     slot: SlotId,
     own: Stamp,
-    ours: bool,
+    stamp: Stamp,
     body: &mut Option<Live>,
 ) -> Result<Outbox, Memory>
-    ensures { IfOk result (λ out. record { body = body.new; out = out } ≡ (if ours then resumed slot own body.old else quietly None)) }
+    ensures { IfOk result (λ out. record { body = body.new; out = out } ≡ (if stamp.replica == slot.replica then resumed slot own body.old else quietly None)) }
 {
-    if !ours {
+    if stamp.replica != slot.replica {
         *body = None;
         return Ok(Outbox::new(alloc));
     }

@@ -6,3 +6,15 @@ pub mod Serving
 pub mod Picks
 pub mod Plainly
 pub mod Firsts
+pub mod Waking
+pub mod Framing
+pub mod Floating
+pub mod Starting
+pub mod Standing
+pub mod Ending
+pub mod Lessening
+pub mod Summing
+pub mod Rounds
+pub mod Budgeting
+pub mod Limiting
+pub mod Drilling

@@ -1,25 +1,32 @@
 -- Worlds in which nothing is lost, and worlds that end.
-use Rattle.std.specs.Prelude.{◌≡◌, ℕ, ◌+◌, ◌*◌, ◌<◌, ◌≤◌, ◌⊎◌, if◌then◌else◌, is_some, Bool, true, false, List, [], ◌∷◌, length, map, Option, Some, None, IsSome, slice_index_or}
-use Rattle.std.specs.List.{AllByRecursion, list_all}
+use Rattle.std.specs.Prelude.{◌≡◌, ℕ, ◌+◌, ◌-◌, ◌^◌, ◌<◌, ◌≤◌, ◌⊎◌, if◌then◌else◌, is_some, true, false, List, [], length, map, Some, None, IfSome, IsSome}
+use Rattle.std.specs.List.{AllByRecursion}
+use Rattle.chare_base.specs.declared.options.Options.{Options}
 use Rattle.chare_base.specs.declared.plan.Plan.{Plan}
 use Rattle.chare_base.specs.declared.slots.SlotId.{SlotId}
+use Rattle.chare_base.specs.Elements.{elements}
 use Rattle.letter_post.specs.declared.letter.BoxId.{BoxId}
 use Rattle.letter_post.specs.declared.letter.BoxId.TheVariants as boxes
 use Rattle.letter_post.specs.declared.letter.Letter.{Letter}
 use Rattle.letter_post.specs.declared.letter.Letter.TheVariants as letters
 use Rattle.letter_post.specs.declared.letter.Sent.{Sent}
 use Rattle.letter_post.specs.declared.order.LastOrder.{LastOrder}
+use Rattle.letter_post.specs.declared.stamp.Stamp.{Stamp}
 use Rattle.letter_post.specs.Stamps.{same_stamp}
+use Rattle.node_core.specs.declared.piece.Held.{Held}
 use Rattle.node_core.specs.Costs.{node_left, sum, weight}
 use Rattle.node_core.specs.Mail.{Did, In, IsAt, Owes}
 use Rattle.node_core.specs.Nodes.{Body, NodeState}
 use Rattle.conductor_core.specs.Conductors.{ConductorState, all_equal}
+use Rattle.conductor_core.specs.Openings.{first_stamp}
 use Rattle.conductor_core.specs.Tells.{verdict_at}
 use Rattle.world_core.specs.declared.event.Actor.{Actor}
 use Rattle.world_core.specs.declared.event.Chooser.{Chooser}
 use Rattle.world_core.specs.declared.event.Event.{Event}
+use Rattle.world_core.specs.Bounds.{turns_bound}
+use Rattle.world_core.specs.Drills.{drilled}
 use Rattle.world_core.specs.Sound.{IsPlaced, Sound}
-use Rattle.world_core.specs.Worlds.{Posts, Setting, SlotState, WorldState, enabled, happens, opening_world, picked, reached, slot_at}
+use Rattle.world_core.specs.Worlds.{Setting, SlotState, WorldState, enabled, happens, opening_world, picked, reached, slot_at}
 
 -- ---- nothing is lost
 
@@ -47,20 +54,44 @@ Arrives s log w boxes.Conductor letter = In letter w.posts.desk ⊎ Told letter 
 abbrev pub Arrived : Setting → List Sent → WorldState → Sent → Type 0
 Arrived s log w sent = Arrives s log w sent.to sent.letter
 
--- a live node that doesn't wait for Resume
-pub record Awake (n : NodeState) : Type 0 where
+-- the stamp that replica 1 has from the start
+abbrev pub IsSecond : Setting → Stamp → Type 0
+IsSecond s stamp = same_stamp stamp (first_stamp s.script 1) ≡ true
+
+-- a live node that doesn't wait for Resume, and what it holds of its buddy is replica 1's
+pub record Awake (s : Setting) (n : NodeState) : Type 0 where
   pub body : Body
   pub alive : n.body ≡ Some body
   pub goes : body.waits ≡ false
+  pub buddy : IfSome body.other (λ (held : Held). IsSecond s held.stamp)
 
--- every piece and verdict of an inbox is of the last iteration
+-- a piece is replica 1's
+abbrev pub FromSecond : Setting → Letter → Type 0
+FromSecond s (letters.Parcel stamp entry k to payload) = Unit {0}
+FromSecond s (letters.Partial stamp r k node value) = Unit {0}
+FromSecond s (letters.Total stamp r k value) = Unit {0}
+FromSecond s (letters.Piece stamp piece) = IsSecond s stamp
+FromSecond s (letters.VerdictOf first second node k verdict piece) = Unit {0}
+FromSecond s (letters.Lend k fresh) = Unit {0}
+FromSecond s (letters.Take stamp k live piece) = Unit {0}
+FromSecond s (letters.Restore stamp k live) = Unit {0}
+FromSecond s (letters.Commit stamp k live) = Unit {0}
+FromSecond s (letters.Resume stamp) = Unit {0}
+FromSecond s (letters.Died stamp slot line) = Unit {0}
+FromSecond s letters.Stop = Unit {0}
+
+-- a piece or verdict is of the last iteration, and a piece is replica 1's
+pub record IsLast (s : Setting) (letter : Letter) : Type 0 where
+  pub at : IsAt s.plan.iterations letter
+  pub second : FromSecond s letter
+
 abbrev pub AllLast : Setting → List Letter → Type 0
-AllLast s letters = AllByRecursion (IsAt s.plan.iterations) letters
+AllLast s letters = AllByRecursion (IsLast s) letters
 
 pub record SlotAfloat (s : Setting) (log : List Sent) (x : SlotState) : Type 0 where
   -- whatever its node should have sent was sent
   pub owes : Owes s.plan s.place s.plan.iterations log x.node
-  pub awake : Awake x.node
+  pub awake : Awake s x.node
   pub last : AllLast s x.box
 
 -- what stays of a slot
@@ -78,7 +109,10 @@ pub record Afloat (s : Setting) (w : WorldState) : Type 0 where
   pub slots : AllByRecursion (SlotAfloat s log) w.posts.slots
   pub desk : AllLast s w.posts.desk
   pub frames : map frame_of w.posts.slots ≡ map frame_of (opening_world s).posts.slots
-  -- while it goes on it hasn't heard Equal of all nodes
+  -- the stamps are those from the start
+  pub first : w.conductor.first ≡ first_stamp s.script 0
+  pub second : w.conductor.second ≡ first_stamp s.script 1
+  -- while the run goes on the conductor hasn't heard Equal of all nodes
   pub awaits : w.conductor.outcome ≡ None → all_equal w.conductor ≡ false
 
 -- ---- what is still to happen, at most
@@ -119,3 +153,15 @@ EveryEventLowers = (s : Setting) (w : WorldState) (actor : Actor) (event : Event
 abbrev pub EveryScheduleEnds : Type 0
 EveryScheduleEnds = (s : Setting) (chooser : Chooser) (turns : ℕ) → s.script ≡ [] → 1 ≤ s.nodes → IsPlaced s → world_left s (opening_world s) ≤ turns →
     IsSome (reached s (opening_world s) (picked s turns chooser (opening_world s))).conductor.outcome
+
+-- at the start no more is left than the bound on turns, of scripts without faults
+abbrev pub StartIsWithin : Type 0
+StartIsWithin = (s : Setting) → IsPlaced s → world_left s (opening_world s) ≤ turns_bound s.plan 0 s.nodes
+
+-- which has 64 bits, where there are no more nodes than elements
+abbrev pub BoundIsSmall : Type 0
+BoundIsSmall = (p : Plan) (nodes : ℕ) → nodes ≤ elements p → turns_bound p 0 nodes ≤ 2 ^ 64 - 1
+
+-- a drill without faults comes to its end, whatever its schedule
+abbrev pub DrillsEnd : Type 0
+DrillsEnd = (p : Plan) (o : Options) (schedule : ℕ) → 1 ≤ o.nodes → o.nodes ≤ elements p → IsSome (drilled p [] o schedule).conductor.outcome
