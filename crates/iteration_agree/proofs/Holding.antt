@@ -12,7 +12,7 @@ use Rattle.iteration_agree.specs.declared.round.Round.TheVariants.{Quiet, Gather
 use Rattle.iteration_agree.specs.declared.round.Taking.{Taking}
 use Rattle.iteration_agree.specs.declared.round.Taking.TheVariants as takings
 use Rattle.iteration_agree.specs.declared.slot.Slot.{Slot}
-use Rattle.iteration_agree.specs.Rounds.{IsGather, IsQuiet, number}
+use Rattle.iteration_agree.specs.Rounds.{IsGather, IsQuiet, last_round, most_iterations, number}
 use Rattle.iteration_agree.specs.Slots.{leave, opening_slot, slot_begun, slot_noted, slot_packed, slot_released, slot_reported, slot_rewound, slot_saw, slot_unnoted, went}
 use Rattle.iteration_agree.specs.Cuts.{CutState, HasSlot, agreed, agreed_on, all_noted, at_place, begun_by, greatest, noted, opened, opening_cut, opening_slots, packed_by, quieted, released_by, reported_by, rewound_by, seen_by, slot_at, slot_of, slot_place}
 use Rattle.iteration_agree.specs.Under.{IsCut, MayPack, MayReport, MayRewind, SmallRound, SmallSlot, Under, UnderSlot}
@@ -31,7 +31,7 @@ has_place c slot cut has = omega (arith, place_by c.nodes slot.node (slot.replic
 
 -- ---- a slot's moves
 
-begun_small : (k : ℕ) (s : Slot) → k < 1000000 → SmallSlot s → SmallSlot (slot_begun k s)
+begun_small : (k : ℕ) (s : Slot) → k < most_iterations → SmallSlot s → SmallSlot (slot_begun k s)
 begun_small k s few small = by (leave s k)
   where
     by : (l : Leave) → SmallSlot (went s k l)
@@ -72,7 +72,7 @@ module _ (c : CutState) (i : ℕ) (there : i < length c.slots) (cut : IsCut c) w
   pub see_holds : IsCut (at_place (slot_saw c.round) i c)
   see_holds = moves (slot_saw c.round) (see_under c i there cut.under) small_here refl
 
-  pub begin_holds : (k : ℕ) → k < 1000000 → IsCut (at_place (slot_begun k) i c)
+  pub begin_holds : (k : ℕ) → k < most_iterations → IsCut (at_place (slot_begun k) i c)
   begin_holds k few = moves (slot_begun k) (begin_under c i there cut.under k) (begun_small k (slot_at c.slots i) few small_here) (begun_replica k (slot_at c.slots i))
 
   pub report_holds : MayReport (slot_at c.slots i) → IsCut (at_place slot_reported i c)
@@ -92,12 +92,12 @@ module _ (c : CutState) (i : ℕ) (there : i < length c.slots) (cut : IsCut c) w
 
 -- ---- the conductor's moves
 
-number_small : (round : Round) → SmallRound round → number round ≤ 1000129
+number_small : (round : Round) → SmallRound round → number round ≤ last_round
 number_small (Quiet r) small = small
 number_small (Gather r f) small = small.0
 number_small (Agreed r k) small = small.0
 
-pub open_holds : (c : CutState) (floor : ℕ) → IsQuiet c.round → floor ≤ 1000000 → IsCut c → IsCut (opened floor c)
+pub open_holds : (c : CutState) (floor : ℕ) → IsQuiet c.round → floor ≤ most_iterations → IsCut c → IsCut (opened floor c)
 unfolding opened
 open_holds c floor quiet few cut = record {
   under = open_under c floor quiet cut.under;
@@ -105,7 +105,7 @@ open_holds c floor quiet few cut = record {
   named = record { long = cut.named.long; replica = cut.named.replica };
 }
 
-pub quiet_holds : (c : CutState) → number c.round < 1000129 → IsCut c → IsCut (quieted c)
+pub quiet_holds : (c : CutState) → number c.round < last_round → IsCut c → IsCut (quieted c)
 unfolding quieted
 quiet_holds c few cut = record {
   under = quiet_under c cut.under;
@@ -117,22 +117,22 @@ quiet_holds c few cut = record {
 }
 
 -- noted caps are small, as the slots' caps are
-notes_small : (round : Round) (floor : ℕ) (taking : Taking) (slots : List Slot) → AllByRecursion (UnderSlot round floor taking) slots → AllByRecursion SmallSlot slots → AllByRecursion (λ s. IfSome s.noted (λ n. n ≤ 1000000)) slots
+notes_small : (round : Round) (floor : ℕ) (taking : Taking) (slots : List Slot) → AllByRecursion (UnderSlot round floor taking) slots → AllByRecursion SmallSlot slots → AllByRecursion (λ s. IfSome s.noted (λ n. n ≤ most_iterations)) slots
 notes_small round floor taking [] all small = tt
 notes_small round floor taking (s ∷ more) all small = (by s.noted refl, notes_small round floor taking more all.1 small.1)
   where
-    by : (o : Option ℕ) → s.noted ≡ o → IfSome o (λ n. n ≤ 1000000)
+    by : (o : Option ℕ) → s.noted ≡ o → IfSome o (λ n. n ≤ most_iterations)
     by None is = tt
     by (Some n) is =
         let whole : s.cap ≡ Some (cap_of n (number round)) = subst (λ o. IfSome o (λ m. s.cap ≡ Some (cap_of m (number round)))) is all.0.noted in
-        subst (λ o. IfSome o (λ c. c.cap ≤ 1000000)) whole small.0.1
+        subst (λ o. IfSome o (λ c. c.cap ≤ most_iterations)) whole small.0.1
 
 pub agree_holds : (c : CutState) (taking : Taking) → IsGather c.round → IsCut c → IsCut (agreed taking c)
 unfolding agreed
 agree_holds c taking gather cut = by (all_noted taking c.slots) (agree_under c taking gather cut.under)
   where
-    few : greatest c.floor c.slots ≤ 1000000
-    few = greatest_most 1000000 c.floor c.slots cut.small.floor (notes_small c.round c.floor c.taking c.slots cut.under.slots cut.small.slots)
+    few : greatest c.floor c.slots ≤ most_iterations
+    few = greatest_most most_iterations c.floor c.slots cut.small.floor (notes_small c.round c.floor c.taking c.slots cut.under.slots cut.small.slots)
 
     by : (b : Bool) → Under (agreed_on taking c (cond b (Some (greatest c.floor c.slots)) None)) → IsCut (agreed_on taking c (cond b (Some (greatest c.floor c.slots)) None))
     by false under = cut
@@ -149,7 +149,7 @@ module _ (c : CutState) (slot : SlotId) (has : HasSlot c slot) (cut : IsCut c) w
   unfolding seen_by
   seen_holds = see_holds c (slot_place c.nodes slot) (has_place c slot cut has) cut
 
-  pub begun_holds : (k : ℕ) → k < 1000000 → IsCut (begun_by slot k c)
+  pub begun_holds : (k : ℕ) → k < most_iterations → IsCut (begun_by slot k c)
   unfolding begun_by
   begun_holds k few = begin_holds c (slot_place c.nodes slot) (has_place c slot cut has) cut k few
 
@@ -245,7 +245,7 @@ agree_closes c taking n k gather cut all is most =
     subst (λ m. IsCut (record { nodes = c.nodes; round = Agreed m k; floor = c.floor; taking = taking; slots = c.slots })) (sym is)
     (subst (λ m. IsCut (record { nodes = c.nodes; round = Agreed (number c.round) m; floor = c.floor; taking = taking; slots = c.slots })) (sym most) there)
 
-pub quiet_closes : (c : CutState) (n : ℕ) (slots : List Slot) → number c.round < 1000129 → IsCut c → n ≡ number c.round → slots ≡ map slot_unnoted c.slots → IsCut (record { nodes = c.nodes; round = Quiet (n + 1); floor = 0; taking = c.taking; slots = slots })
+pub quiet_closes : (c : CutState) (n : ℕ) (slots : List Slot) → number c.round < last_round → IsCut c → n ≡ number c.round → slots ≡ map slot_unnoted c.slots → IsCut (record { nodes = c.nodes; round = Quiet (n + 1); floor = 0; taking = c.taking; slots = slots })
 unfolding quieted
 quiet_closes c n slots few cut is same =
     subst (λ m. IsCut (record { nodes = c.nodes; round = Quiet (m + 1); floor = 0; taking = c.taking; slots = slots })) (sym is)
@@ -255,6 +255,6 @@ pub start_closes : (nodes : ℕ) (slots : List Slot) → nodes ≤ 32 → slots 
 unfolding opening_cut
 start_closes nodes slots few same = subst (λ x. IsCut (record { nodes = nodes; round = Quiet 0; floor = 0; taking = takings.Both; slots = x })) (sym same) (opening_holds nodes few)
 
-pub open_closes : (c : CutState) (n floor : ℕ) → IsQuiet c.round → floor ≤ 1000000 → IsCut c → n ≡ number c.round → IsCut (record { nodes = c.nodes; round = Gather n floor; floor = floor; taking = c.taking; slots = c.slots })
+pub open_closes : (c : CutState) (n floor : ℕ) → IsQuiet c.round → floor ≤ most_iterations → IsCut c → n ≡ number c.round → IsCut (record { nodes = c.nodes; round = Gather n floor; floor = floor; taking = c.taking; slots = c.slots })
 unfolding opened
 open_closes c n floor quiet few cut is = subst (λ m. IsCut (record { nodes = c.nodes; round = Gather m floor; floor = floor; taking = c.taking; slots = c.slots })) (sym is) (open_holds c floor quiet few cut)

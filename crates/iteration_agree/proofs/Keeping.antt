@@ -66,9 +66,11 @@ module _ (c : CutState) (i : ℕ) (there : i < length c.slots) (under : Under c)
   pub below_round : (round : Round) → RoundIs round c.floor c.slots → Below round c.floor (slot_at c.slots i)
   below_round (Quiet r) is = tt
   below_round (Gather r f) is = tt
-  below_round (Agreed r k) is =
-      (omega (arith, is, greatest_first c.floor c.slots), subst (λ n. IfSome (slot_at c.slots i).noted (λ m. m ≤ n)) (sym is)
-      (lists.at_place (λ s. IfSome s.noted (λ n. n ≤ greatest c.floor c.slots)) c.slots i (opening_slot 0) (greatest_all c.floor c.slots) there))
+  below_round (Agreed r k) is = (
+    omega (arith, is, greatest_first c.floor c.slots),
+    subst (λ n. IfSome (slot_at c.slots i).noted (λ m. m ≤ n)) (sym is)
+        (lists.at_place (λ s. IfSome s.noted (λ n. n ≤ greatest c.floor c.slots)) c.slots i (opening_slot 0) (greatest_all c.floor c.slots) there),
+  )
 
   moves : (move : Slot → Slot) → UnderSlot c.round c.floor c.taking (move (slot_at c.slots i)) → (move (slot_at c.slots i)).noted ≡ (slot_at c.slots i).noted → Under (at_place move i c)
   moves move new same = record {

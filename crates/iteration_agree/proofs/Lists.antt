@@ -60,3 +60,8 @@ pub mapped_same : {A B : Type 0} (f : A → B) (g : A → A) (xs : List A) (j : 
 mapped_same f g [] j d same = refl
 mapped_same f g (y ∷ ys) zero d same = same y
 mapped_same f g (y ∷ ys) (suc j) d same = mapped_same f g ys j d same
+
+pub mapped_there : {A : Type 0} (g : A → A) (xs : List A) (i : ℕ) (d : A) → i < length xs → slice_index_or (map g xs) i d ≡ g (slice_index_or xs i d)
+mapped_there g [] i d h = absurd (omega (arith, h))
+mapped_there g (y ∷ ys) zero d h = refl
+mapped_there g (y ∷ ys) (suc i) d h = mapped_there g ys i d (omega (arith, h))

@@ -285,9 +285,6 @@ module _ (floor : ℕ) (taking : Taking) (base : ℕ) where
   low now (Gather r f) same b loud = inl (omega (arith, same, b))
   low now (Agreed r k) same b loud = inr (k, r, same, b)
 
-  back_of : (o : Option ℕ) (n : ℕ) (seen : Round) → IfSome o (λ _. BackTo base seen) → o ≡ Some n → BackTo base seen
-  back_of o n seen h is = subst (λ x. IfSome x (λ _. BackTo base seen)) is h
-
   pub rewound_under : (round : Round) (s : Slot) → MayRewind base s → UnderSlot round floor taking s → Below round floor s → UnderSlot round floor taking (slot_rewound base s)
   rewound_under round s may u under = record { seen = u.seen; reported = u.reported; loud = u.loud; parked = u.parked; same = u.same; noted = u.noted; here = here round u under }
     where
@@ -304,7 +301,7 @@ module _ (floor : ℕ) (taking : Taking) (base : ℕ) where
               let early : c.round ≤ number s.seen = of_cap (λ x. x.round ≤ number s.seen) s.cap c is u.reported in
               let seen : number s.seen ≡ r = omega (arith, at, early, u.seen) in
               let loud : IsQuiet s.seen → ⊥ = of_cap (λ x. x.round ≡ number s.seen → IsQuiet s.seen → ⊥) s.cap c is u.loud (at ∙ sym seen) in
-              of c (low (Gather r f) s.seen (u.same seen) (back_of (reported s) c.cap s.seen may.back (ap (cap_in (number s.seen)) is ∙ cap_here c (number s.seen) (at ∙ sym seen))) loud)
+              of c (low (Gather r f) s.seen (u.same seen) (may.back c.cap (ap (cap_in (number s.seen)) is ∙ cap_here c (number s.seen) (at ∙ sym seen))) loud)
       here (Agreed r k) u under = λ part. by s.noted refl part
         where
           of : (base ≤ floor) ⊎ ((j : ℕ) × (m : ℕ) × (Agreed r k ≡ Agreed m j) × (base ≤ j)) → base ≤ k
@@ -315,4 +312,4 @@ module _ (floor : ℕ) (taking : Taking) (base : ℕ) where
           by None is part = absurd (no_some s.noted (u.here part).0 is)
           by (Some n) is part =
               let told : NotedAs (Agreed r k) floor s n = noted_as (Agreed r k) floor taking s n u is in
-              ((u.here part).0, of (low (Agreed r k) s.seen told.same (back_of (reported s) n s.seen may.back (noted_reported (Agreed r k) floor taking s n u is)) told.loud))
+              ((u.here part).0, of (low (Agreed r k) s.seen told.same (may.back n (noted_reported (Agreed r k) floor taking s n u is)) told.loud))

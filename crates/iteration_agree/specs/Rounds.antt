@@ -34,3 +34,10 @@ abbrev pub IsAgreed : Round → Type 0
 IsAgreed (Quiet r) = ⊥
 IsAgreed (Gather r floor) = ⊥
 IsAgreed (Agreed r k) = ⊤
+
+-- A job has at most this many iterations, and a run's last round at most this number.
+abbrev pub most_iterations : ℕ
+most_iterations = 1000000
+
+abbrev pub last_round : ℕ
+last_round = 1000129

@@ -1,12 +1,13 @@
 -- What holds of the agreement after every list of moves, and when each move may be made.
 use Rattle.std.specs.Prelude.{◌≡◌, ℕ, ◌+◌, ◌<◌, ◌≤◌, true, false, max, IfSome, IsSome, length, ⊤, List, Some, None}
 use Rattle.std.specs.List.{AllByRecursion}
+use Rattle.std.specs.Option.{ForSome}
 use Rattle.chare_base.specs.declared.slots.SlotId.{SlotId}
 use Rattle.iteration_agree.specs.declared.round.Round.{Round}
 use Rattle.iteration_agree.specs.declared.round.Round.TheVariants.{Quiet, Gather, Agreed}
 use Rattle.iteration_agree.specs.declared.round.Taking.{Taking}
 use Rattle.iteration_agree.specs.declared.slot.Slot.{Slot}
-use Rattle.iteration_agree.specs.Rounds.{IsAgreed, IsGather, IsQuiet, number, takes_part}
+use Rattle.iteration_agree.specs.Rounds.{IsAgreed, IsGather, IsQuiet, last_round, most_iterations, number, takes_part}
 use Rattle.iteration_agree.specs.Slots.{reported}
 use Rattle.iteration_agree.specs.Cuts.{CutState, HasSlot, greatest, slot_of}
 
@@ -53,18 +54,18 @@ pub record Under (c : CutState) : Type 0 where
   pub round : RoundIs c.round c.floor c.slots
 
 abbrev pub SmallSlot : Slot → Type 0
-SmallSlot s = (s.top ≤ 1000000) × IfSome s.cap (λ c. c.cap ≤ 1000000)
+SmallSlot s = (s.top ≤ most_iterations) × IfSome s.cap (λ c. c.cap ≤ most_iterations)
 
 abbrev pub SmallRound : Round → Type 0
-SmallRound (Quiet r) = r ≤ 1000129
-SmallRound (Gather r floor) = (r ≤ 1000129) × (floor ≤ 1000000)
-SmallRound (Agreed r k) = (r ≤ 1000129) × (k ≤ 1000000)
+SmallRound (Quiet r) = r ≤ last_round
+SmallRound (Gather r floor) = (r ≤ last_round) × (floor ≤ most_iterations)
+SmallRound (Agreed r k) = (r ≤ last_round) × (k ≤ most_iterations)
 
 -- numbers of rounds, floors, tops, caps and what is agreed are within bounds
 pub record Small (c : CutState) : Type 0 where
   pub nodes : c.nodes ≤ 32
   pub round : SmallRound c.round
-  pub floor : c.floor ≤ 1000000
+  pub floor : c.floor ≤ most_iterations
   pub slots : AllByRecursion SmallSlot c.slots
 
 -- every slot stands at its place
@@ -81,7 +82,7 @@ pub record IsCut (c : CutState) : Type 0 where
 
 pub record MayBegin (k : ℕ) (s : Slot) : Type 0 where
   pub below : k ≤ s.top
-  pub few : k < 1000000
+  pub few : k < most_iterations
 
 pub record MayReport (s : Slot) : Type 0 where
   pub gather : IsGather s.seen
@@ -104,9 +105,9 @@ BackTo base (Gather r floor) = base ≤ floor
 BackTo base (Agreed r k) = base ≤ k
 
 pub record MayRewind (base : ℕ) (s : Slot) : Type 0 where
-  pub few : base ≤ 1000000
+  pub few : base ≤ most_iterations
   -- where it reported in the round that it last saw
-  pub back : IfSome (reported s) (λ _. BackTo base s.seen)
+  pub back : ForSome (reported s) (λ _. BackTo base s.seen)
 
 abbrev pub MayRelease : Slot → Type 0
 MayRelease s = reported s ≡ None

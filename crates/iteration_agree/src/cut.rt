@@ -1,9 +1,12 @@
 //! The agreement.
 
-ghost use Rattle.std.specs.Prelude.{◌≡◌, ℕ, ◌+◌, ◌<◌, ◌≤◌, ◌++◌, length, map, replicate, true, Some, None, IfOk, IfSome, OnOk};
-ghost use Rattle.iteration_agree.specs.Rounds.{IsGather, IsQuiet, NamesReplica, number};
-ghost use Rattle.iteration_agree.specs.Slots.{leave, opening_slot, reported, sight_of, slot_unnoted, standing_of};
-ghost use Rattle.iteration_agree.specs.Cuts.{HasSlot, agreed, agreement, all_noted, begun_by, greatest, is_noted, noted, opened, opening_cut, opening_slots, packed_by, quieted, released_by, reported_by, rewound_by, seen_by, slot_of, slot_place};
+ghost use Rattle.std.specs.Prelude.{◌≡◌, ◌↔◌, ℕ, ◌+◌, ◌<◌, ◌≤◌, ◌++◌, length, map, replicate, true, Some, None, IfOk, IfSome, OnOk};
+ghost use Rattle.std.specs.Option.{ForSome};
+ghost use Rattle.iteration_agree.specs.declared.round.Leave.TheVariants.{Hold};
+ghost use Rattle.iteration_agree.specs.Rounds.{IsGather, IsQuiet, NamesReplica, last_round, most_iterations, number};
+ghost use Rattle.iteration_agree.specs.Slots.{leave, limit, opening_slot, reported, sight_of, slot_unnoted, standing_of};
+ghost use Rattle.iteration_agree.specs.Cuts.{HasSlot, agreed, agreement, all_noted, begun_by, greatest, is_noted, noted, opened, opening_cut, packed_by, quieted, released_by, reported_by, rewound_by, seen_by, slot_of, slot_place};
+ghost use Rattle.iteration_agree.specs.Laws.{IsGreatest, Misses};
 ghost use Rattle.iteration_agree.specs.Under.{BackTo, IsCut, MayPack, Under};
 
 use crate::round::{Leave, Round, Sight, Standing, Taking, number, takes_part};
@@ -16,7 +19,7 @@ use std::marker::Model;
 /// The agreement of all slots on the iteration of the next checkpoint, while their tasks go on.
 ///
 /// Contracts see a `CutState` of `specs/Cuts`: the conductor's round with its floor and who takes part, and what is
-/// known of each slot. What holds after every list of moves is `IsCut` of `specs/Under`.
+/// known of each slot. What holds after every list of moves is `IsCut` of `specs/Under`. No call but `start` takes memory.
 #[derive(Drop)]
 pub struct Cut {
     nodes: u16,
@@ -80,7 +83,7 @@ impl Cut {
     #[tactic(auto, unfolding(crate::specs::Cuts::opened))]
     pub fn open_round(&mut self, floor: u64)
         requires quiet { IsQuiet self.old.round }
-        requires few { floor ≤ 1000000 }
+        requires few { floor ≤ most_iterations }
         ensures { self.new ≡ opened floor self.old }
     {
         self.round = Round::Gather {
@@ -95,7 +98,7 @@ impl Cut {
     #[tactic(auto, unfolding(crate::specs::Cuts::quieted))]
     pub fn quiet(&mut self)
         requires stands { IsQuiet self.old.round → ⊥ }
-        requires few { number self.old.round < 1000129 }
+        requires few { number self.old.round < last_round }
         ensures { self.new ≡ quieted self.old }
     {
         self.round = Round::Quiet {
@@ -122,8 +125,9 @@ impl Cut {
     pub fn begin(&mut self, slot: SlotId, k: u64) -> Leave
         requires slot { HasSlot self.old slot }
         requires below { k ≤ (slot_of self.old slot).top }
-        requires few { k < 1000000 }
+        requires few { k < most_iterations }
         ensures answer { result ≡ leave (slot_of self.old slot) k }
+        ensures hold { (l : ℕ) → (result ≡ Hold l) ↔ ((limit (slot_of self.old slot) ≡ Some l) × (l ≤ k)) }
         ensures moved { self.new ≡ begun_by slot k self.old }
     {
         let at = slot_place(self.nodes, slot);
@@ -163,6 +167,8 @@ impl Cut {
         requires gather { IsGather self.old.round }
         requires names { NamesReplica taking }
         ensures answer { result ≡ agreement taking self.old }
+        ensures missing { (result ≡ None) ↔ Misses taking self.old }
+        ensures greatest { IfSome result (λ k. IsGreatest k self.old) }
         ensures moved { self.new ≡ agreed taking self.old }
     {
         if all_noted(taking, self.slots.as_slice()) {
@@ -183,7 +189,7 @@ impl Cut {
     #[tactic(auto, unfolding(crate::specs::Cuts::packed_by))]
     pub fn pack(&mut self, slot: SlotId)
         requires slot { HasSlot self.old slot }
-        requires there { MayPack (slot_of self.old slot) }
+        requires agreed { MayPack (slot_of self.old slot) }
         ensures { self.new ≡ packed_by slot self.old }
     {
         let at = slot_place(self.nodes, slot);
@@ -194,9 +200,9 @@ impl Cut {
     #[tactic(auto, unfolding(crate::specs::Cuts::rewound_by))]
     pub fn rewind(&mut self, slot: SlotId, base: u64)
         requires slot { HasSlot self.old slot }
-        requires few { base ≤ 1000000 }
+        requires few { base ≤ most_iterations }
         // At most the floor, or the agreed iteration, that it saw in the round in which it reported.
-        requires back { IfSome (reported (slot_of self.old slot)) (λ _. BackTo base (slot_of self.old slot).seen) }
+        requires back { ForSome (reported (slot_of self.old slot)) (λ _. BackTo base (slot_of self.old slot).seen) }
         ensures { self.new ≡ rewound_by slot base self.old }
     {
         let at = slot_place(self.nodes, slot);
@@ -273,4 +279,32 @@ fn greatest(floor: u64, slots: &[Slot]) -> u64
         greatest = greatest.max(slot.noted.unwrap_or(0));
     }
     greatest
+}
+
+#[cfg(test)]
+mod tests {
+    use super::*;
+    use std::test::Fail;
+
+    #[test]
+    #[tactic(auto, unfolding(crate::specs::Cuts::opening_cut))]
+    fn starts_quiet_with_free_slots(rt: HostRuntime) -> Result<(), Fail> {
+        let cut = Cut::start(rt.alloc(), 2)?;
+        let slot = SlotId {
+            replica: 1,
+            node: 1,
+        };
+        assert_eq!(rt; cut.round(), Round::Quiet { round: 0 });
+        assert_eq!(rt;
+            cut.standing(slot),
+            Standing {
+                seen: Round::Quiet { round: 0 },
+                top: 0,
+                cap: None,
+                free: true,
+                packed: false,
+            }
+        );
+        Ok(())
+    }
 }

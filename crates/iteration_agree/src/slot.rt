@@ -1,6 +1,7 @@
 //! What is known of one slot, and its moves.
 
 ghost use Rattle.std.specs.Prelude.{◌≡◌, ◌<◌, ◌≤◌};
+ghost use Rattle.iteration_agree.specs.Rounds.{most_iterations};
 ghost use Rattle.iteration_agree.specs.Slots.{cap_in, is_packed, leave, limit, opening_slot, reported, sight_of, slot_begun, slot_noted, slot_packed, slot_released, slot_reported, slot_rewound, slot_saw, standing_of};
 
 use crate::round::{Leave, Round, Sight, Standing, number};
@@ -125,16 +126,18 @@ pub fn leave(slot: &Slot, k: u64) -> Leave
     }
 }
 
-pub(crate) fn see(round: Round, slot: &mut Slot) -> Round
+/// The slot sees a round.
+pub fn see(round: Round, slot: &mut Slot) -> Round
     ensures round { result ≡ round }
     ensures moved { slot.new ≡ slot_saw round slot.old }
 {
     slot.seen = round;
-    slot.seen
+    round
 }
 
-pub(crate) fn begin(k: u64, slot: &mut Slot) -> Leave
-    requires { k < 1000000 }
+/// The slot is about to begin iteration `k`.
+pub fn begin(k: u64, slot: &mut Slot) -> Leave
+    requires { k < most_iterations }
     ensures answer { result ≡ leave slot.old k }
     ensures moved { slot.new ≡ slot_begun k slot.old }
 {
@@ -145,7 +148,8 @@ pub(crate) fn begin(k: u64, slot: &mut Slot) -> Leave
     leave
 }
 
-pub(crate) fn report(slot: &mut Slot) -> u64
+/// The slot reports its top as its cap of the round that it last saw.
+pub fn report(slot: &mut Slot) -> u64
     ensures cap { result ≡ slot.old.top }
     ensures moved { slot.new ≡ slot_reported slot.old }
 {
@@ -156,27 +160,31 @@ pub(crate) fn report(slot: &mut Slot) -> u64
     slot.top
 }
 
-pub(crate) fn pack(slot: &mut Slot)
+/// The slot packs in the round that it last saw, and is no longer free.
+pub fn pack(slot: &mut Slot)
     ensures { slot.new ≡ slot_packed slot.old }
 {
     slot.free = false;
     slot.packed = Some(number(slot.seen));
 }
 
-pub(crate) fn rewind(base: u64, slot: &mut Slot)
+/// The slot's elements go back to a base. Its cap stays.
+pub fn rewind(base: u64, slot: &mut Slot)
     ensures { slot.new ≡ slot_rewound base slot.old }
 {
     slot.top = base;
     slot.packed = None;
 }
 
-pub(crate) fn release(slot: &mut Slot)
+/// The slot is free again.
+pub fn release(slot: &mut Slot)
     ensures { slot.new ≡ slot_released slot.old }
 {
     slot.free = true;
 }
 
-pub(crate) fn note(round: Round, slot: &mut Slot) -> Sight
+/// What the conductor sees of the slot in a round. A cap of a round that gathers is noted.
+pub fn note(round: Round, slot: &mut Slot) -> Sight
     ensures sight { result ≡ sight_of round slot.old }
     ensures moved { slot.new ≡ slot_noted round slot.old }
 {
