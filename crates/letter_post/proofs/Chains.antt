@@ -1,11 +1,6 @@
 -- Letters that follow one another.
-use Rattle.std.proofs.Common.{◌≡◌, List, [], ◌∷◌, ◌++◌, None, refl, ap, sym, ◌∙◌, subst}
-use Rattle.std.specs.List.{AllByRecursion}
-use Rattle.chare_base.specs.declared.plan.Plan.{Plan}
-use Rattle.fault_script.specs.declared.fault.Fault.{Fault}
-use Rattle.letter_post.specs.declared.letter.Letter.{Letter}
-use Rattle.letter_post.specs.declared.order.LastOrder.{LastOrder}
-use Rattle.letter_post.specs.Orders.{Chain, ChainsTakeAll, ChainsTakeOne, FollowsBy, FollowsOrder, MailFollows, next_by, next_order, order_of}
+use Rattle.std.proofs.Common.{[], ◌∷◌, refl, ap, sym, subst}
+use Rattle.letter_post.specs.Orders.{Chain, ChainsTakeAll, ChainsTakeOne, FollowsBy, MailFollows, next_by, next_order}
 
 pub chains_take_all : ChainsTakeAll
 chains_take_all p script last middle end [] more chain follows = subst (λ l. Chain p script l more end) (sym chain) follows

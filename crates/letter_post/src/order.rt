@@ -1,7 +1,7 @@
 //! Orders to a slot.
 
 ghost use Rattle.std.specs.Prelude.{◌≡◌};
-ghost use Rattle.letter_post.specs.Orders.{is_mail, next_order};
+ghost use Rattle.letter_post.specs.Orders.{is_mail, next_order, order_at};
 
 use crate::letter::Letter;
 use crate::stamp::Stamp;
@@ -22,23 +22,20 @@ impl LastOrder {
     {
         match letter {
             Letter::Restore {
-                stamp, iteration, ..
-            } => LastOrder {
-                stamp: *stamp,
-                base: *iteration,
-            },
+                stamp,
+                iteration,
+                ..
+            } => order_at(*stamp, *iteration),
             Letter::Commit {
-                stamp, iteration, ..
-            } => LastOrder {
-                stamp: *stamp,
-                base: *iteration,
-            },
+                stamp,
+                iteration,
+                ..
+            } => order_at(*stamp, *iteration),
             Letter::Take {
-                stamp, iteration, ..
-            } => LastOrder {
-                stamp: *stamp,
-                base: *iteration,
-            },
+                stamp,
+                iteration,
+                ..
+            } => order_at(*stamp, *iteration),
             Letter::Parcel { .. } => self,
             Letter::Partial { .. } => self,
             Letter::Total { .. } => self,
@@ -50,6 +47,12 @@ impl LastOrder {
             Letter::Stop => self,
         }
     }
+}
+
+fn order_at(stamp: Stamp, base: u64) -> LastOrder
+    ensures { result ≡ order_at stamp base }
+{
+    LastOrder { stamp, base }
 }
 
 impl Letter {

@@ -37,9 +37,9 @@ use Rattle.object_steps.specs.Totals.{NodesMakeWhole}
 use Rattle.pup_state.specs.declared.piece.Piece.{Piece}
 use Rattle.node_core.specs.declared.piece.Held.{Held}
 use Rattle.node_core.specs.Gatherings.{Gathering, Tallied, is_of, tallied}
-use Rattle.node_core.specs.Keeps.{Alive, AllAt, Gathers, HearsKeep, IsHeld, IsPieceOf, IsSharing, Keeps, KeepsOn, element_of, share_of}
+use Rattle.node_core.specs.Keeps.{Alive, AllAt, Gathers, HearsKeep, IsHeld, IsSharing, Keeps, KeepsOn, element_of, share_of}
 use Rattle.node_core.specs.Loads.{LoadsBack}
-use Rattle.node_core.specs.Nodes.{Body, Heard, NodeState, Outcome, body_heard, compared, is_new, node_heard, node_heard_as, node_heard_by, parcel_heard, partial_heard, piece_heard, piece_kept, share_heard, share_tallied, taken_at, taken_by, total_heard, total_sent, total_taken, unmoved, with_body, with_heard, with_mail}
+use Rattle.node_core.specs.Nodes.{Body, Heard, NodeState, body_heard, is_new, node_heard, node_heard_as, node_heard_by, parcel_heard, partial_heard, piece_heard, piece_kept, share_heard, taken_at, taken_by, total_heard, total_sent, total_taken, unmoved, with_body, with_mail}
 use Rattle.node_core.specs.Rosters.{Roster, node_count, nodes_with, number_in, roster_of, seat_of, sharers_of}
 use Rattle.node_core.specs.Turns.{is_at, takes}
 use Rattle.node_core.proofs.Gathering.{Counts, collected, new_of, tallied_counts}

@@ -12,7 +12,7 @@ use Rattle.fault_script.specs.declared.fault.Fault.{Fault}
 use Rattle.letter_post.specs.declared.letter.Letter.TheVariants as letters
 use Rattle.letter_post.specs.declared.letter.Sent.{Sent}
 use Rattle.letter_post.specs.Stamps.{lines_of}
-use Rattle.letter_post.specs.Truth.{IsPiece, Says, node_records, node_verdict}
+use Rattle.letter_post.specs.Truth.{Says, node_records, node_verdict}
 use Rattle.buddy_compare.specs.Comparing.{verdict_of}
 use Rattle.object_steps.specs.Laws.{Follows, ObjectsFollow}
 use Rattle.object_steps.specs.Laws as object_laws
@@ -22,11 +22,9 @@ use Rattle.pup_state.specs.declared.piece.Piece.{Piece}
 use Rattle.pup_state.specs.Spelling.{cells_at, records_of}
 use Rattle.pup_state.specs.Spelling.{record_spelling}
 use Rattle.node_core.specs.declared.piece.Held.{Held}
-use Rattle.node_core.specs.Keeps.{Alive, AllAt, Capped, CappedBody, FittedBody, IsGathering, IsHeld, IsPieceOf, Keeps, KeepsFits, KeepsOn, PacksKeep, RunsKeep, TurnsKeep, element_of}
+use Rattle.node_core.specs.Keeps.{Alive, AllAt, CappedBody, FittedBody, IsHeld, IsPieceOf, Keeps, KeepsFits, KeepsOn, PacksKeep, RunsKeep, TurnsKeep, element_of}
 use Rattle.node_core.specs.Nodes.{Answer, Body, NodeState, Outcome, Passing, Ran, all_at, all_at_of, body_packed, body_ran, body_ran_at, body_ran_by, body_turned, compared, first_running, idle_of, next_begin, node_packed, node_ran, node_turned, node_turned_by, objects_records, out_of, outcome_of, pack_sends, passed, piece_of, sender_of, silent, stands, to_slot, turn_of, verdict_sent, with_body, with_fresh, with_ran}
-use Rattle.node_core.specs.Rosters.{roster_of, seat_of}
-use Rattle.node_core.specs.declared.turn.Sender.{Sender}
-use Rattle.node_core.specs.declared.turn.Turn.{Turn}
+use Rattle.node_core.specs.Rosters.{seat_of}
 use Rattle.node_core.specs.Turns.{Turned, begins, is_at, stays, turned}
 use Rattle.node_core.proofs.Lists.{all_set, all_to, get_mapped, got_at, map_set}
 use Rattle.node_core.proofs.Sending.{PassKeeps, passed_keeps}

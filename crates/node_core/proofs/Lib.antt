@@ -25,3 +25,10 @@ pub mod Moving
 pub mod Heard
 pub mod Packed
 pub mod Complete
+pub mod Sums
+pub mod Costing
+pub mod Weighing
+pub mod Lowering
+pub mod Firsts
+pub mod Loads
+pub mod Loaded

@@ -13,26 +13,20 @@ use Rattle.chare_eval.specs.Fold.{fold}
 use Rattle.chare_eval.specs.Later.{LaterFlipsDecideInside}
 use Rattle.chare_eval.specs.Laws.{EarlierFlipsDecide, flips_before}
 use Rattle.fault_script.specs.declared.fault.Fault.{Fault}
-use Rattle.letter_post.specs.declared.letter.BoxId.TheVariants as boxes
-use Rattle.letter_post.specs.declared.letter.Letter.{Letter}
 use Rattle.letter_post.specs.declared.letter.Letter.TheVariants as letters
-use Rattle.letter_post.specs.declared.letter.Sent.{Sent}
 use Rattle.letter_post.specs.declared.order.LastOrder.{LastOrder}
 use Rattle.letter_post.specs.declared.stamp.Stamp.{Stamp}
 use Rattle.letter_post.specs.Orders.{FollowsBy, GoesBack, Order, TakesBase, next_by, order_at, stamp_in}
 use Rattle.letter_post.specs.Orders as orders
 use Rattle.letter_post.specs.Stamps.{lines_of}
-use Rattle.letter_post.specs.Truth.{Holds, IsPiece, Says, node_records}
+use Rattle.letter_post.specs.Truth.{Says}
 use Rattle.object_steps.specs.Laws.{Follows, ObjectsFollow}
-use Rattle.object_steps.specs.Objects.{Progress}
 use Rattle.pup_state.specs.declared.piece.Piece.{Piece}
 use Rattle.node_core.specs.declared.piece.Held.{Held}
 use Rattle.node_core.specs.Keeps.{Alive, AllAt, IsHeld, IsPieceOf, Keeps, KeepsOn, OrdersRest, RestsAt, element_of}
 use Rattle.node_core.specs.Loads.{LoadsBack, loaded, opened}
-use Rattle.node_core.specs.Nodes.{Body, NodeState, Obeyed, Outcome, all_at_of, awakened, begun_at, begun_by, begun_with, committed, committed_with, node_from, node_heard, obeyed, obeyed_by, quietly, restored, resumed, sent_again, taken_up, to_slot, with_base, with_obeyed}
-use Rattle.node_core.specs.Turns.{is_at}
+use Rattle.node_core.specs.Nodes.{Body, NodeState, Obeyed, all_at_of, awakened, begun_at, begun_by, begun_with, committed, committed_with, node_from, node_heard, obeyed, obeyed_by, quietly, restored, sent_again, taken_up, to_slot, with_base, with_obeyed}
 use Rattle.node_core.proofs.Keeping.{all_at_each}
-use Rattle.node_core.proofs.Lists.{if_some}
 use Rattle.node_core.proofs.Rebased.{all_follow_over, gatherings_over, piece_over, same_before, totals_over}
 use Rattle.node_core.proofs.Turning.{first, second}
 
@@ -60,15 +54,15 @@ members_within count e (node ∷ more) j h = by (node == j) (members_within coun
 
 -- Where a node begins with a true piece, its elements are the definition's.
 begun_is : LoadsBack → (p : Plan) (place : List ℕ) (lines : List Flip) (j k : ℕ) (live : LineSet) (base : Piece) (other : Option Held) → length place ≡ elements p → IsPieceOf p place lines j base →
-    (P : Body → Type 0) → (base.iteration ≡ k → P (begun_with base other live (opened p (fold p lines k) k (members place j)))) → IfSome (begun_at p place j k live base other) P
+    (P : Body → Type 0) → (base.iteration ≡ k → P (begun_with base other live (opened p (fold p lines k) k (members place j)))) → IfSome (begun_at p place k live base other) P
 begun_is back p place lines j k live base other count is P then_is = by (base.iteration == k) refl
   where
-    read : base.iteration ≡ k → loaded p (members place j) k base.bytes ≡ Some (opened p (fold p lines k) k (members place j))
+    read : base.iteration ≡ k → loaded p (members place base.node) base.iteration base.bytes ≡ Some (opened p (fold p lines k) k (members place j))
     read at =
-        ap (loaded p (members place j) k) (is.is.bytes ∙ ap (λ n. node_records p place lines n base.node) at ∙ ap (node_records p place lines k) is.node)
-        ∙ back p place lines k j count (subst (λ n. n ≤ p.iterations) at is.is.within)
+        ap (loaded p (members place base.node) base.iteration) is.is.bytes ∙ back p place lines base.iteration base.node count is.is.within
+        ∙ ap (λ n. Some (opened p (fold p lines n) n (members place base.node))) at ∙ ap (λ m. Some (opened p (fold p lines k) k (members place m))) is.node
 
-    by : (c : Bool) → (base.iteration == k) ≡ c → IfSome (cond c (begun_by base other live (loaded p (members place j) k base.bytes)) None) P
+    by : (c : Bool) → (base.iteration == k) ≡ c → IfSome (cond c (begun_by base other live (loaded p (members place base.node) base.iteration base.bytes)) None) P
     by false h = tt
     by true h =
         let at : base.iteration ≡ k = eqb-true base.iteration k h in
@@ -118,23 +112,23 @@ module _ (law : ObjectsFollow) (earlier : EarlierFlipsDecide) (inside : LaterFli
       let flips : flips_before b.base.iteration (lines_of script stamp) ≡ flips_before b.base.iteration own = subst (λ m. flips_before m (lines_of script stamp) ≡ flips_before m own) at follows.flips in
       piece_over p place own (lines_of script stamp) j b.base (same_before earlier p own (lines_of script stamp) b.base.iteration flips) alive.base
 
-  restore_keeps : (stamp : Stamp) (k : ℕ) (live : LineSet) → GoesBack script n.last stamp k → (body : Option Body) → IfSome body (Alive p script place n) → lives (order_at stamp k) (restored p place j k live body)
+  restore_keeps : (stamp : Stamp) (k : ℕ) (live : LineSet) → GoesBack script n.last stamp k → (body : Option Body) → IfSome body (Alive p script place n) → lives (order_at stamp k) (restored p place k live body)
   restore_keeps stamp k live follows None alive = tt
   restore_keeps stamp k live follows (Some b) alive =
       let is = base_over stamp k follows b alive in
       begun_is back p place (lines_of script stamp) j k live b.base b.other keeps.roster.count is (AliveUnder (order_at stamp k)) (begun_alive stamp k live b.base b.other is alive.other)
 
-  restore_rests : (stamp : Stamp) (k : ℕ) (live : LineSet) → GoesBack script n.last stamp k → (body : Option Body) → IfSome body (Alive p script place n) → IfSome (restored p place j k live body) (RestsAt k)
+  restore_rests : (stamp : Stamp) (k : ℕ) (live : LineSet) → GoesBack script n.last stamp k → (body : Option Body) → IfSome body (Alive p script place n) → IfSome (restored p place k live body) (RestsAt k)
   restore_rests stamp k live follows None alive = tt
   restore_rests stamp k live follows (Some b) alive =
       begun_is back p place (lines_of script stamp) j k live b.base b.other keeps.roster.count (base_over stamp k follows b alive) (RestsAt k) (begun_rests stamp k live b.base b.other)
 
   -- ---- a piece that came
 
-  took : (P : Body → Type 0) (k : ℕ) (live : LineSet) (piece : Piece) → IfSome (begun_at p place j k live piece None) P → IfSome (taken_up p place j k live piece) P
+  took : (P : Body → Type 0) (k : ℕ) (live : LineSet) (piece : Piece) → IfSome (begun_at p place k live piece None) P → IfSome (taken_up p place j k live piece) P
   took P k live piece h = by (piece.node == j)
     where
-      by : (c : Bool) → IfSome (cond c (begun_at p place j k live piece None) None) P
+      by : (c : Bool) → IfSome (cond c (begun_at p place k live piece None) None) P
       by true = h
       by false = tt
 
@@ -280,10 +274,10 @@ own_order p place n order P h = by ((stamp_in order).replica == n.slot.replica)
     by true = h
     by false = tt
 
-pub orders_rest : EarlierFlipsDecide → LoadsBack → OrdersRest
+pub orders_rest : ObjectsFollow → EarlierFlipsDecide → LaterFlipsDecideInside → LoadsBack → OrdersRest
 unfolding node_heard
-orders_rest earlier back = record {
-  restores = λ p script place n stamp k live keeps follows. own_order p place n (orders.Restore stamp k live) (RestsAt k) (restore_rests earlier back p script place n keeps stamp k live follows n.body keeps.body);
+orders_rest law earlier inside back = record {
+  restores = λ p script place n stamp k live keeps follows. own_order p place n (orders.Restore stamp k live) (RestsAt k) (restore_rests law earlier inside back p script place n keeps stamp k live follows n.body keeps.body);
   commits = λ p script place n stamp k live. own_order p place n (orders.Commit stamp k live) (RestsAt k) (commit_rests k live n.body);
-  takes = λ p script place n stamp k live piece keeps holds. own_order p place n (orders.Take stamp k live piece) (RestsAt k) (take_rests back p script place n keeps stamp k live piece (record { node = holds.1; is = holds.0 }));
+  takes = λ p script place n stamp k live piece keeps holds. own_order p place n (orders.Take stamp k live piece) (RestsAt k) (take_rests law earlier inside back p script place n keeps stamp k live piece (record { node = holds.1; is = holds.0 }));
 }

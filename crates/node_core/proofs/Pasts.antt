@@ -70,7 +70,7 @@ done_stays (b ∷ more) zero (suc q) h = h
 done_stays (b ∷ more) (suc i) zero h = h
 done_stays (b ∷ more) (suc i) (suc q) h = done_stays more i q h
 
-done_now : (done : List Bool) (i : ℕ) → i < length done → is_done (slice_set done i true) i ≡ true
+pub done_now : (done : List Bool) (i : ℕ) → i < length done → is_done (slice_set done i true) i ≡ true
 done_now [] i h = absurd (omega (arith, h))
 done_now (b ∷ more) zero h = refl
 done_now (b ∷ more) (suc i) h = done_now more i (omega (arith, h))

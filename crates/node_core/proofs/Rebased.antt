@@ -1,11 +1,10 @@
 -- What stays true of elements, contributions and pieces under other flips.
-use Rattle.std.proofs.Common.{◌≡◌, ℕ, ℤ, ◌+◌, ◌<◌, ◌≤◌, Bool, true, false, cond, List, [], ◌∷◌, ◌++◌, length, map, refl, ap, sym, ◌∙◌, arith, subst, Option, Some, None}
-use Rattle.std.specs.Prelude.{◌==◌, IfSome, is_none, nat_le}
+use Rattle.std.proofs.Common.{◌≡◌, ℕ, ℤ, ◌≤◌, Bool, true, false, cond, List, [], ◌∷◌, ◌++◌, refl, ap, sym, ◌∙◌, arith, Option, Some, None}
+use Rattle.std.specs.Prelude.{◌==◌, is_none}
 use Rattle.std.specs.List.{AllByRecursion, filter}
 use Rattle.std.proofs.lemmas.Bool.{eqb-true, leb-true}
 use Rattle.chare_base.specs.declared.message.Payload.{Payload}
 use Rattle.chare_base.specs.declared.plan.Plan.{Plan}
-use Rattle.chare_base.specs.declared.plan.Reduction.{Reduction}
 use Rattle.chare_base.specs.Flip.{Flip}
 use Rattle.chare_base.specs.Total.{joined_to}
 use Rattle.chare_eval.specs.Fold.{fold}
@@ -13,7 +12,7 @@ use Rattle.chare_eval.specs.Inside.{cells_between}
 use Rattle.chare_eval.specs.Later.{LaterFlipsDecideInside, SameInside, flips_from}
 use Rattle.chare_eval.specs.Laws.{EarlierFlipsDecide, contribution_of, flips_before, some_number}
 use Rattle.chare_eval.specs.Stage.{state_at}
-use Rattle.letter_post.specs.Truth.{IsPiece, contributions_of, node_members}
+use Rattle.letter_post.specs.Truth.{contributions_of, node_members}
 use Rattle.object_steps.specs.Laws.{Follows, IsMessage}
 use Rattle.object_steps.specs.Laws as object_laws
 use Rattle.object_steps.specs.Objects.{Progress}
@@ -21,7 +20,7 @@ use Rattle.pup_state.specs.declared.piece.Piece.{Piece}
 use Rattle.pup_state.specs.Spelling.{records_of}
 use Rattle.ref_messages.specs.declared.key.RefKey.{RefKey}
 use Rattle.node_core.specs.Gatherings.{Gathering}
-use Rattle.node_core.specs.Keeps.{AllAt, Gathers, Gives, IsGathering, IsPieceOf, IsSharing, share_of}
+use Rattle.node_core.specs.Keeps.{Gives, IsGathering, IsPieceOf, IsSharing, share_of}
 use Rattle.node_core.specs.Nodes.{all_at_of, is_from}
 use Rattle.node_core.specs.Rosters.{Roster, sharers_of}
 use Rattle.node_core.specs.Turns.{is_at}

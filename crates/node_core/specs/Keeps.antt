@@ -20,7 +20,7 @@ use Rattle.letter_post.specs.declared.order.LastOrder.{LastOrder}
 use Rattle.letter_post.specs.declared.stamp.Stamp.{Stamp}
 use Rattle.letter_post.specs.Orders.{FollowsOrder, GoesBack, next_order}
 use Rattle.letter_post.specs.Stamps.{lines_of}
-use Rattle.letter_post.specs.Truth.{Holds, IsPiece, Says, contributions_of, node_members, node_records, node_verdict}
+use Rattle.letter_post.specs.Truth.{Holds, IsPiece, Says, contributions_of, node_members}
 use Rattle.object_steps.specs.Laws.{Follows}
 use Rattle.object_steps.specs.Objects.{Fits, Progress}
 use Rattle.object_steps.specs.Partial.{Gathered}

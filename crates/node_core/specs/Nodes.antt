@@ -495,17 +495,17 @@ abbrev pub begun_by : Piece → Option Held → LineSet → Option (List Progres
 begun_by base other live None = None
 begun_by base other live (Some objects) = Some (begun_with base other live objects)
 
-abbrev pub begun_at : Plan → List ℕ → ℕ → ℕ → LineSet → Piece → Option Held → Option Body
-begun_at p place j k live base other = if base.iteration == k then begun_by base other live (loaded p (members place j) k base.bytes) else None
+abbrev pub begun_at : Plan → List ℕ → ℕ → LineSet → Piece → Option Held → Option Body
+begun_at p place k live base other = if base.iteration == k then begun_by base other live (loaded p (members place base.node) base.iteration base.bytes) else None
 
 -- back at its base, with its buddy's piece
-abbrev pub restored : Plan → List ℕ → ℕ → ℕ → LineSet → Option Body → Option Body
-restored p place j k live None = None
-restored p place j k live (Some b) = begun_at p place j k live b.base b.other
+abbrev pub restored : Plan → List ℕ → ℕ → LineSet → Option Body → Option Body
+restored p place k live None = None
+restored p place k live (Some b) = begun_at p place k live b.base b.other
 
 -- at a piece that came
 abbrev pub taken_up : Plan → List ℕ → ℕ → ℕ → LineSet → Piece → Option Body
-taken_up p place j k live piece = if piece.node == j then begun_at p place j k live piece None else None
+taken_up p place j k live piece = if piece.node == j then begun_at p place k live piece None else None
 
 -- of an iteration or later
 abbrev pub is_from : ℕ → Gathering → Bool
@@ -557,7 +557,7 @@ resumed slot stamp None = quietly None
 resumed slot stamp (Some b) = record { body = Some (awakened b); out = sent_again slot stamp b.fresh }
 
 abbrev pub obeyed_by : Plan → List ℕ → SlotId → Stamp → Option Body → Order → Obeyed
-obeyed_by p place slot own body (orders.Restore stamp k live) = quietly (restored p place slot.node k live body)
+obeyed_by p place slot own body (orders.Restore stamp k live) = quietly (restored p place k live body)
 obeyed_by p place slot own body (orders.Commit stamp k live) = quietly (committed k live body)
 obeyed_by p place slot own body (orders.Resume stamp) = resumed slot own body
 obeyed_by p place slot own body (orders.Take stamp k live piece) = quietly (taken_up p place slot.node k live piece)
@@ -566,9 +566,15 @@ obeyed_by p place slot own body (orders.Take stamp k live piece) = quietly (take
 abbrev pub obeyed : Plan → List ℕ → SlotId → Stamp → Option Body → Order → Obeyed
 obeyed p place slot own body order = if (stamp_in order).replica == slot.replica then obeyed_by p place slot own body order else quietly None
 
+-- no order leaves all as it is
+abbrev pub obeyed_as : Plan → List ℕ → SlotId → Stamp → Option Body → Option Order → Obeyed
+obeyed_as p place slot own body None = quietly body
+obeyed_as p place slot own body (Some order) = obeyed p place slot own body order
+
 abbrev pub with_obeyed : NodeState → LastOrder → Obeyed → Outcome
 with_obeyed n last o = record { node = node_from n.slot last n.roster n.over o.body; out = o.out }
 
+-- What is no order is mail.
 abbrev pub node_heard_as : Plan → List Fault → List ℕ → Letter → NodeState → Option Order → Outcome
 node_heard_as p script place letter n None = node_heard_by p script place letter n n.body
 node_heard_as p script place letter n (Some order) = with_obeyed n (next_by n.last (Some order)) (obeyed p place n.slot n.last.stamp n.body order)
