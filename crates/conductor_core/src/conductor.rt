@@ -149,11 +149,7 @@ impl Conductor {
             return CutMove::None;
         }
         match self.phase {
-            Phase::Quiet => quiet_move(
-                floor(&self.ledger),
-                self.sights.as_slice(),
-                self.next_look,
-            ),
+            Phase::Quiet => quiet_move(floor(&self.ledger), self.sights.as_slice(), self.next_look),
             Phase::Gather => gather_move(first_unnoted(
                 self.noted.as_slice(),
                 self.ledger.options().nodes,
