@@ -1,6 +1,6 @@
 -- What all nodes' verdicts say.
 use Rattle.std.proofs.Common.{◌≡◌, ℕ, zero, suc, ◌<◌, ◌≤◌, ◌⊎◌, Bool, true, false, cond, List, [], ◌∷◌, length, refl, ap, sym, ◌∙◌, arith, inl, inr, Option, Some, None}
-use Rattle.std.specs.Prelude.{◌&&◌, is_some, nat_lt, slice_index_or}
+use Rattle.std.specs.Prelude.{is_some, nat_lt}
 use Rattle.std.specs.List.{list_all}
 use Rattle.std.proofs.lemmas.Bool.{ltb-false, ltb-true}
 use Rattle.chare_base.specs.declared.plan.ElementId.{ElementId}

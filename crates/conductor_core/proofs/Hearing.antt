@@ -1,12 +1,11 @@
 -- What a letter makes of the conductor, and what it keeps of the nodes.
-use Rattle.std.proofs.Common.{◌≡◌, ◌≢◌, ℕ, zero, suc, ◌+◌, ◌<◌, Bool, true, false, cond, List, [], ◌∷◌, ◌++◌, length, refl, ap, sym, ◌∙◌, arith, subst, Option, Some, None}
+use Rattle.std.proofs.Common.{◌≡◌, ◌≢◌, ℕ, zero, suc, ◌+◌, ◌<◌, Bool, true, false, cond, List, [], ◌∷◌, length, refl, ap, sym, ◌∙◌, arith, subst, Option, Some, None}
 use Rattle.std.specs.Prelude.{◌==◌, ◌&&◌, is_none, map, nat_lt, replicate, slice_index_or, slice_set, IsSome}
 use Rattle.std.proofs.lemmas.Bool.{eqb-true, ltb-true}
 use Rattle.std.proofs.lemmas.Bool.Decides.{Decides-eqb}
 use Rattle.std.proofs.lemmas.List.{get_or-set_same, get_or-set_other, length-append, length-replicate, length-set}
 use Rattle.chare_base.specs.declared.options.Options.{Options}
 use Rattle.chare_base.specs.declared.plan.Plan.{Plan}
-use Rattle.chare_eval.specs.Fold.{fold}
 use Rattle.fault_script.specs.declared.fault.Fault.{Fault}
 use Rattle.fault_script.specs.Lines.{flips_in}
 use Rattle.pup_state.specs.declared.compare.Verdict.{Verdict}
@@ -20,8 +19,8 @@ use Rattle.letter_post.specs.Truth.{Holds, node_records, node_verdict}
 use Rattle.checkpoint_store.specs.Assembled.{bytes_of, rest_at}
 use Rattle.conductor_core.specs.declared.wants.Phase.{Phase}
 use Rattle.conductor_core.specs.declared.wants.Phase.TheVariants as phases
-use Rattle.conductor_core.specs.Conductors.{ConductorState, IsOf, conductor_heard, counts, is_at, silent, start_conductor, verdict_heard, with_verdict}
-use Rattle.conductor_core.specs.Tells.{AllKept, HearsTell, IsKept, IsKeptAt, StartsTell, Tells, TellsOn, verdict_at}
+use Rattle.conductor_core.specs.Conductors.{ConductorState, conductor_heard, counts, is_at, silent, start_conductor, verdict_heard, with_verdict}
+use Rattle.conductor_core.specs.Tells.{AllKept, HearsTell, IsKeptAt, StartsTell, Tells, TellsOn, verdict_at}
 use Rattle.conductor_core.specs.Verdicts.{no_pieces}
 
 -- ---- lists

@@ -5,7 +5,6 @@ use Rattle.std.specs.List.{AllByRecursion}
 use Rattle.std.proofs.lemmas.Bool.{eqb-true}
 use Rattle.std.proofs.lemmas.Bool.Decides.{Decides-eqb}
 use Rattle.chare_base.specs.declared.plan.Plan.{Plan}
-use Rattle.chare_base.specs.declared.slots.LineSet.{LineSet}
 use Rattle.chare_base.specs.declared.slots.SlotId.{SlotId}
 use Rattle.fault_script.specs.declared.fault.Fault.{Fault}
 use Rattle.letter_post.specs.declared.letter.BoxId.TheVariants as boxes

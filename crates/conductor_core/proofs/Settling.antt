@@ -1,13 +1,12 @@
 -- What is recorded once all verdicts are there, and what is sent then.
-use Rattle.std.proofs.Common.{◌≡◌, ℕ, zero, suc, ◌+◌, ◌<◌, ◌≤◌, Bool, true, false, cond, List, [], ◌∷◌, ◌++◌, length, refl, ap, sym, ◌∙◌, arith, subst, inl, inr, Option, Some, None}
-use Rattle.std.specs.Prelude.{◌&&◌, is_none, is_some, map, replicate, IsSome}
-use Rattle.std.specs.List.{AllByRecursion, list_all}
+use Rattle.std.proofs.Common.{◌≡◌, ℕ, zero, suc, ◌<◌, ◌≤◌, Bool, true, false, cond, List, [], ◌∷◌, ◌++◌, length, refl, ap, sym, ◌∙◌, arith, subst, inl, inr, Option, Some, None}
+use Rattle.std.specs.Prelude.{◌&&◌, is_some, map, replicate}
+use Rattle.std.specs.List.{list_all}
 use Rattle.std.proofs.lemmas.List.{length-replicate}
 use Rattle.chare_base.specs.declared.options.Options.{Options}
 use Rattle.chare_base.specs.declared.plan.ElementId.{ElementId}
 use Rattle.chare_base.specs.declared.plan.Plan.{Plan}
 use Rattle.chare_base.specs.declared.slots.LineSet.{LineSet}
-use Rattle.chare_base.specs.declared.slots.SlotId.{SlotId}
 use Rattle.chare_base.specs.Elements.{elements}
 use Rattle.chare_base.specs.Flip.{Flip}
 use Rattle.chare_base.specs.Placing.{Covers}
@@ -26,13 +25,13 @@ use Rattle.run_ledger.specs.Checkpoints.{EqualCheckpointsAreOfEqualFolds}
 use Rattle.run_ledger.specs.Conditions.{unlawful}
 use Rattle.run_ledger.specs.Laws.{AcceptsMakeTheBase, AcceptsRebase, DiffersKeepTheBase, FaultsStay, LineagesAreSets, StaysTidy}
 use Rattle.run_ledger.specs.Lawful.{Allows, DiffersAt, checkpoint}
-use Rattle.run_ledger.specs.Ledgers.{LedgerState, after, after_all, base_flips, lineage, lineage_set, live_set, opening_ledger}
+use Rattle.run_ledger.specs.Ledgers.{LedgerState, after, base_flips, lineage, lineage_set, live_set, opening_ledger}
 use Rattle.run_ledger.specs.Lines.{fault_of}
 use Rattle.run_ledger.proofs.Allowed.{accept_bounds, done_base}
 use Rattle.letter_post.specs.declared.letter.Letter.{Letter}
 use Rattle.letter_post.specs.declared.letter.Letter.TheVariants as letters
 use Rattle.letter_post.specs.declared.stamp.Stamp.{Stamp}
-use Rattle.letter_post.specs.Orders.{Chain, GoesBack, TakesBase, order_at}
+use Rattle.letter_post.specs.Orders.{Chain, TakesBase, order_at}
 use Rattle.letter_post.specs.Stamps.{lines_of}
 use Rattle.letter_post.specs.Truth.{node_verdict}
 use Rattle.checkpoint_store.specs.declared.mark.Mark.{Mark}
@@ -42,11 +41,10 @@ use Rattle.checkpoint_store.specs.Marks.{mark_of}
 use Rattle.conductor_core.specs.declared.ending.Outcome.TheVariants as outcomes
 use Rattle.conductor_core.specs.declared.wants.Phase.{Phase}
 use Rattle.conductor_core.specs.declared.wants.Phase.TheVariants as phases
-use Rattle.conductor_core.specs.Conductors.{ConductorState, Heard, accepted, accepted_by, differed, differed_by, finished, finished_by, gone_back, gone_on, nodes_of, quieted, settled_by, silent, taken, with_mark, with_record}
-use Rattle.conductor_core.specs.Endings.{IsLast, IsLastAt, last_states}
-use Rattle.conductor_core.specs.Moves.{slot_named}
+use Rattle.conductor_core.specs.Conductors.{ConductorState, Heard, accepted, accepted_by, differed, differed_by, finished_by, gone_back, gone_on, nodes_of, quieted, settled_by, silent, taken, with_mark, with_record}
+use Rattle.conductor_core.specs.Endings.{IsLastAt, last_states}
 use Rattle.conductor_core.specs.Orders.{can_rise, raised, relined}
-use Rattle.conductor_core.specs.Tells.{AllKept, Ended, IsKeptAt, Recorded, Stamped, Tells, TellsOn, mail_to, verdict_at}
+use Rattle.conductor_core.specs.Tells.{AllKept, Ended, IsKeptAt, Recorded, Tells, TellsOn, verdict_at}
 use Rattle.conductor_core.specs.Verdicts.{difference_in, least_difference}
 use Rattle.conductor_core.proofs.Deciding.{LeastNamed, NamedBy, ThereAt, each_there, least_of_all, named_differs, none_differs, unnamed_equal}
 use Rattle.conductor_core.proofs.Hearing.{forgotten_kept, none_some, stays_so}

@@ -1,6 +1,6 @@
 -- What answers make of the conductor, and what it leaves.
-use Rattle.std.proofs.Common.{◌≡◌, ℕ, zero, suc, ◌+◌, ◌<◌, ◌≤◌, Bool, true, false, cond, List, length, refl, ap, sym, ◌∙◌, arith, subst, min, Option, Some, None}
-use Rattle.std.specs.Prelude.{◌==◌, ◌&&◌, is_some, nat_lt, replicate, slice_set}
+use Rattle.std.proofs.Common.{◌≡◌, ℕ, zero, suc, ◌+◌, ◌≤◌, Bool, true, false, cond, List, length, refl, ap, sym, ◌∙◌, arith, subst, Option, Some, None}
+use Rattle.std.specs.Prelude.{◌==◌, ◌&&◌, is_some, nat_lt, slice_set}
 use Rattle.std.specs.List.{list_all, list_any}
 use Rattle.std.proofs.lemmas.Bool.{ltb-true}
 use Rattle.std.proofs.lemmas.List.{length-replicate, length-set}
@@ -11,7 +11,6 @@ use Rattle.chare_base.specs.declared.slots.SlotId.{SlotId}
 use Rattle.chare_base.specs.Elements.{elements}
 use Rattle.chare_base.specs.Placing.{Covers}
 use Rattle.fault_script.specs.declared.fault.Fault.{Fault}
-use Rattle.pup_state.specs.declared.compare.Verdict.{Verdict}
 use Rattle.run_ledger.specs.declared.record.Record.{Record}
 use Rattle.run_ledger.specs.declared.record.Record.TheVariants.{Accept, Differ, Done}
 use Rattle.run_ledger.specs.Conditions.{due, unlawful}
@@ -20,7 +19,6 @@ use Rattle.run_ledger.specs.Ledgers.{LedgerState, opening_ledger}
 use Rattle.checkpoint_store.specs.Assembled.{assembled}
 use Rattle.letter_post.specs.declared.letter.Letter.{Letter}
 use Rattle.letter_post.specs.declared.letter.Letter.TheVariants as letters
-use Rattle.iteration_agree.specs.declared.round.Sight.{Sight}
 use Rattle.iteration_agree.specs.declared.round.Taking.{Taking}
 use Rattle.iteration_agree.specs.declared.round.Taking.TheVariants as takings
 use Rattle.iteration_agree.specs.Cuts.{slot_place}
@@ -34,8 +32,8 @@ use Rattle.conductor_core.specs.declared.wants.Phase.{Phase}
 use Rattle.conductor_core.specs.declared.wants.Phase.TheVariants as phases
 use Rattle.conductor_core.specs.Conductors.{ConductorState, Heard, accepted_by, agreed_on, conductor_did, conductor_heard, counts, differed_by, finished_by, gone_on, move_in, moved, nodes_of, quieted, settled_by, settled_in, silent, wanted, with_mark, with_note, with_record, with_sight, with_verdict}
 use Rattle.conductor_core.specs.Endings.{IsLast, marks_from}
-use Rattle.conductor_core.specs.Moves.{agreed_move, first_unnoted, gather_move, is_noted, quiet_move, reaches, slot_after, slot_named, slot_or, unnoted_from}
-use Rattle.conductor_core.specs.Tells.{AllKept, DidTell, Ended, EndsTell, IsAgreed, IsKept, IsSlot, MoveFits, MovesFit, PhasesFollow, Tells, TellsOn, phase_after, phase_on, verdict_at}
+use Rattle.conductor_core.specs.Moves.{first_unnoted, gather_move, is_noted, reaches, slot_after, slot_named, slot_or, unnoted_from}
+use Rattle.conductor_core.specs.Tells.{AllKept, DidTell, Ended, EndsTell, IsAgreed, IsSlot, MoveFits, MovesFit, PhasesFollow, Tells, TellsOn, phase_after, phase_on}
 use Rattle.conductor_core.specs.Orders.{can_rise}
 use Rattle.conductor_core.specs.Verdicts.{least_difference}
 use Rattle.conductor_core.proofs.Hearing.{stays_so}

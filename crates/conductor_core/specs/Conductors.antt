@@ -93,27 +93,29 @@ wanted c = if is_some c.outcome then moves.None else move_in c c.phase
 abbrev pub sight_of : SlotId → ConductorState → Option Sight
 sight_of slot c = slice_index_or c.sights (slot_place (nodes_of c) slot) None
 
+-- a sight of a slot is kept
 abbrev pub with_sight : SlotId → Sight → ConductorState → ConductorState
 with_sight slot sight c = record c { sights = slice_set c.sights (slot_place (nodes_of c) slot) (Some sight) }
 
--- all sights are forgotten
+-- no sight is kept any more
 abbrev pub unseen : ConductorState → ConductorState
 unseen c = record c { sights = replicate (length c.sights) None }
 
 -- ---- the round goes on; an answer to another move than the wanted one changes nothing
 
+-- a slot was looked at: it looks at the next
 abbrev pub look_taken : SlotId → CutAnswer → ConductorState → ConductorState
 look_taken slot answers.Nothing c = c
 look_taken slot (answers.Seen sight) c = record (with_sight slot sight c) { next_look = slot_after (nodes_of c) slot }
 look_taken slot (answers.Agreed k) c = c
 
--- no slot is noted yet
+-- a round was opened: no slot is noted yet
 abbrev pub round_opened : CutAnswer → ConductorState → ConductorState
 round_opened answers.Nothing c = record c { phase = phases.Gather; noted = replicate (length c.noted) false }
 round_opened (answers.Seen sight) c = c
 round_opened (answers.Agreed k) c = c
 
--- a slot that has a cap in this round is noted
+-- a slot is noted, if it has a cap in this round
 abbrev pub with_note : SlotId → Option ℕ → ConductorState → ConductorState
 with_note slot None c = c
 with_note slot (Some cap) c = record c { noted = slice_set c.noted (slot_place (nodes_of c) slot) true }
@@ -134,16 +136,19 @@ round_agreed (answers.Agreed k) c = agreed_on k c
 
 -- ---- records
 
+-- a record is made
 abbrev pub with_record : Record → ConductorState → ConductorState
 with_record r c = record c { ledger = after c.ledger r; records = c.records ++ r ∷ [] }
 
--- Both replicas go back to the base, under stamps of the next epoch.
+-- both stamps are of the next epoch, with the lineages that the ledger has now
 abbrev pub raised_stamps : ConductorState → ConductorState
 raised_stamps c = record c { first = raised (lines_now 0 c) c.first; second = raised (lines_now 1 c) c.second }
 
+-- all slots are ordered back to the base
 abbrev pub sent_back : ConductorState → Heard
 sent_back c = record { conductor = unseen c; out = all_back (nodes_of c) c.ledger.base (live_set c.ledger) c.first c.second }
 
+-- both replicas go back
 abbrev pub gone_back : ConductorState → Heard
 gone_back c = sent_back (raised_stamps c)
 
@@ -152,24 +157,28 @@ abbrev pub differed_by : Option ℕ → ℕ → ElementId → ConductorState →
 differed_by None k element c = gone_back (with_record (records.Differ k element) c)
 differed_by (Some which) k element c = silent c
 
+-- where both stamps have a next epoch
 abbrev pub differed : ℕ → ElementId → ConductorState → Heard
 differed k element c =
     if can_rise c.first && can_rise c.second then differed_by (unlawful c.ledger (records.Differ k element)) k element c else silent c
 
--- Both replicas go on from a new base.
+-- both stamps keep their epochs, with the lineages that the ledger has now
 abbrev pub relined_stamps : ConductorState → ConductorState
 relined_stamps c = record c { first = relined (lines_now 0 c) c.first; second = relined (lines_now 1 c) c.second }
 
+-- all slots are ordered to take their fresh piece as the base
 abbrev pub sent_on : ConductorState → Heard
 sent_on c = record { conductor = unseen c; out = all_taken (nodes_of c) c.ledger.base (live_set c.ledger) c.first c.second }
 
+-- both replicas go on from a new base
 abbrev pub gone_on : ConductorState → Heard
 gone_on c = sent_on (relined_stamps c)
 
+-- the mark of the base, which has these bytes
 abbrev pub with_mark : List ℕ → ConductorState → ConductorState
 with_mark bytes c = record c { marks = c.marks ++ mark_of c.ledger.base bytes ∷ [] }
 
--- the run is done, where the ledger takes it: the checkpoint is the last one
+-- the run is done, where the ledger takes it: these are the last checkpoint's bytes, and all slots are sent Stop
 abbrev pub finished_by : Option ℕ → List ℕ → Heard → Heard
 finished_by None bytes h = record {
   conductor = record (with_record records.Done h.conductor) { last = bytes; outcome = Some outcomes.Done };
@@ -180,7 +189,7 @@ finished_by (Some which) bytes h = h
 abbrev pub finished : List ℕ → Heard → Heard
 finished bytes h = finished_by (unlawful h.conductor.ledger records.Done) bytes h
 
--- a checkpoint of these bytes is the base
+-- the base has these bytes
 abbrev pub taken : List ℕ → ConductorState → Heard
 taken bytes c = finished bytes (gone_on (with_mark bytes c))
 
@@ -198,6 +207,7 @@ accepted p place k c = accepted_by (unlawful c.ledger (records.Accept k)) p plac
 abbrev pub quieted : ConductorState → ConductorState
 quieted c = record c { phase = phases.Quiet; verdicts = replicate (length c.verdicts) None }
 
+-- the verdicts at iteration k name an element, or none
 abbrev pub settled_by : Plan → List ℕ → ℕ → Option ElementId → ConductorState → Heard
 settled_by p place k None c = accepted p place k c
 settled_by p place k (Some element) c = differed k element c
@@ -208,6 +218,7 @@ settled_in p place phases.Quiet c = silent c
 settled_in p place phases.Gather c = silent c
 settled_in p place (phases.Agreed k) c = settled_by p place k (least_difference c.verdicts) (quieted c)
 
+-- the round was made quiet
 abbrev pub settled : Plan → List ℕ → CutAnswer → ConductorState → Heard
 settled p place answers.Nothing c = settled_in p place c.phase c
 settled p place (answers.Seen sight) c = silent c
@@ -215,6 +226,7 @@ settled p place (answers.Agreed k) c = silent c
 
 -- ---- answers
 
+-- a move was made
 abbrev pub moved : Plan → List ℕ → CutMove → CutAnswer → ConductorState → Heard
 moved p place moves.None answer c = silent c
 moved p place (moves.Look slot) answer c = silent (look_taken slot answer c)
@@ -240,6 +252,7 @@ is_at k (phases.Agreed agreed) = k == agreed
 abbrev pub counts : Stamp → Stamp → ℕ → ℕ → ConductorState → Bool
 counts first second node k c = is_none c.outcome && same_stamp first c.first && same_stamp second c.second && is_at k c.phase && nat_lt node (length c.verdicts)
 
+-- a verdict and its piece are kept
 abbrev pub with_verdict : ℕ → Verdict → Piece → ConductorState → ConductorState
 with_verdict node verdict piece c = record c { verdicts = slice_set c.verdicts node (Some verdict); pieces = slice_set c.pieces node piece }
 
@@ -286,7 +299,7 @@ opening_conductor l = record {
   over = false;
 }
 
--- of a job with n iterations
+-- of a job with n iterations, before the first record
 unfoldable pub start_conductor : List Fault → Options → ℕ → ConductorState
 start_conductor script o n = opening_conductor (opening_ledger script o n)
 

@@ -1,5 +1,5 @@
 -- What the conductor wants of the agreement.
-use Rattle.std.specs.Prelude.{ℕ, zero, suc, ◌+◌, ◌*◌, Bool, false, ◌==◌, nat_le, nat_lt, is_some, if◌then◌else◌, List, slice_index_or, Option, Some, None}
+use Rattle.std.specs.Prelude.{ℕ, zero, suc, ◌+◌, Bool, false, ◌==◌, nat_le, nat_lt, is_some, if◌then◌else◌, List, slice_index_or, Option, Some, None}
 use Rattle.std.specs.List.{list_all, list_any}
 use Rattle.chare_base.specs.declared.slots.SlotId.{SlotId}
 use Rattle.pup_state.specs.declared.compare.Verdict.{Verdict}

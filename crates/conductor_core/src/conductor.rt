@@ -137,6 +137,10 @@ impl Conductor {
     }
 
     /// The move on the agreement that it wants; None where it wants none, and once the run has ended. It takes no memory.
+    ///
+    /// While no round is open it looks at slot after slot, and opens a round once the top of a slot that it saw has
+    /// reached the floor. In a round that gathers caps it notes the first slot that isn't noted, and once all are, it
+    /// agrees. In an agreed round it waits for every node's verdict, and then makes the round quiet.
     #[tactic(auto, unfolding(crate::specs::Conductors::wanted))]
     pub fn wants(&self) -> CutMove
         ensures { result ≡ wanted self.now }
@@ -145,11 +149,7 @@ impl Conductor {
             return CutMove::None;
         }
         match self.phase {
-            Phase::Quiet => quiet_move(
-                floor(&self.ledger),
-                self.sights.as_slice(),
-                self.next_look,
-            ),
+            Phase::Quiet => quiet_move(floor(&self.ledger), self.sights.as_slice(), self.next_look),
             Phase::Gather => gather_move(first_unnoted(
                 self.noted.as_slice(),
                 self.ledger.options().nodes,

@@ -101,10 +101,7 @@ fn reaches(sight: Option<Sight>, k: u64) -> bool
 pub(crate) fn first_unnoted(noted: &[bool], nodes: u16) -> Option<SlotId>
     ensures { result ≡ first_unnoted noted.now nodes }
 {
-    slot_or(
-        unnoted_of(noted, nodes, 0),
-        unnoted_of(noted, nodes, 1),
-    )
+    slot_or(unnoted_of(noted, nodes, 0), unnoted_of(noted, nodes, 1))
 }
 
 fn slot_or(first: Option<SlotId>, other: Option<SlotId>) -> Option<SlotId>

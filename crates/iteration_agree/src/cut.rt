@@ -1,11 +1,11 @@
 //! The agreement.
 
 ghost use Rattle.std.specs.Prelude.{◌≡◌, ◌↔◌, ℕ, ◌+◌, ◌<◌, ◌≤◌, ◌++◌, length, map, replicate, true, Some, None, IfOk, IfSome, OnOk};
-ghost use Rattle.std.specs.Option.{ForSome, IfNone};
+ghost use Rattle.std.specs.Option.{ForSome};
 ghost use Rattle.iteration_agree.specs.declared.round.Leave.TheVariants.{Hold};
 ghost use Rattle.iteration_agree.specs.Rounds.{IsGather, IsQuiet, NamesReplica, last_round, most_iterations, number};
 ghost use Rattle.iteration_agree.specs.Slots.{leave, limit, opening_slot, reported, sight_of, slot_unnoted, standing_of};
-ghost use Rattle.iteration_agree.specs.Cuts.{HasSlot, agreed, agreement, all_noted, begun_by, greatest, is_noted, noted, opened, opening_cut, opening_slots, packed_by, quieted, released_by, reported_by, rewound_by, seen_by, slot_of, slot_place};
+ghost use Rattle.iteration_agree.specs.Cuts.{HasSlot, agreed, agreement, all_noted, begun_by, greatest, is_noted, noted, opened, opening_cut, packed_by, quieted, released_by, reported_by, rewound_by, seen_by, slot_of, slot_place};
 ghost use Rattle.iteration_agree.specs.Laws.{IsGreatest, Misses};
 ghost use Rattle.iteration_agree.specs.Under.{BackTo, IsCut, MayPack, Under};
 
@@ -19,7 +19,7 @@ use std::marker::Model;
 /// The agreement of all slots on the iteration of the next checkpoint, while their tasks go on.
 ///
 /// Contracts see a `CutState` of `specs/Cuts`: the conductor's round with its floor and who takes part, and what is
-/// known of each slot. What holds after every list of moves is `IsCut` of `specs/Under`.
+/// known of each slot. What holds after every list of moves is `IsCut` of `specs/Under`. No call but `start` takes memory.
 #[derive(Drop)]
 pub struct Cut {
     nodes: u16,
@@ -205,7 +205,7 @@ impl Cut {
     #[tactic(auto, unfolding(crate::specs::Cuts::packed_by))]
     pub fn pack(&mut self, slot: SlotId)
         requires slot { HasSlot self.old slot }
-        requires there { MayPack (slot_of self.old slot) }
+        requires agreed { MayPack (slot_of self.old slot) }
         ensures { self.new ≡ packed_by slot self.old }
     {
         let at = slot_place(self.nodes, slot);
