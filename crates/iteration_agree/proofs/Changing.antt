@@ -1,5 +1,5 @@
 -- What each move changes.
-use Rattle.std.proofs.Common.{◌≡◌, ℕ, ◌+◌, ◌<◌, ◌≤◌, Bool, true, false, cond, refl, ap, sym, ◌∙◌, arith, subst, Option, Some, None}
+use Rattle.std.proofs.Common.{◌≡◌, ℕ, ◌+◌, ◌<◌, ◌≤◌, Bool, true, false, cond, [], ◌∷◌, refl, ap, sym, ◌∙◌, arith, subst, Option, Some, None}
 use Rattle.std.specs.Prelude.{◌==◌, ◌≢◌}
 use Rattle.std.proofs.lemmas.Bool.{eqb-true}
 use Rattle.std.proofs.lemmas.Bool.Decides.{nat_tests}
@@ -14,8 +14,8 @@ use Rattle.iteration_agree.specs.Rounds.{IsAgreed, IsGather, IsQuiet, number}
 use Rattle.iteration_agree.specs.Slots.{leave, opening_slot, slot_begun, slot_noted, slot_packed, slot_released, slot_reported, slot_rewound, slot_saw, slot_unnoted, standing_of, went}
 use Rattle.iteration_agree.specs.Cuts.{CutState, HasSlot, agreed, agreed_on, agreement, at_place, begun_by, noted, opened, packed_by, quieted, released_by, reported_by, rewound_by, seen_by, slot_at, slot_of, slot_place}
 use Rattle.iteration_agree.specs.Under.{IsCut}
-use Rattle.iteration_agree.specs.Moves.{Agrees, Allowed, Begins, Move, Notes, Opens, Packs, Quiets, Releases, Reports, Rewinds, Sees, moved, mover}
-use Rattle.iteration_agree.specs.Laws.{AgreedStands, BeginsRaise, EachSlotMoves, IsRewind, NotesLeaveTheRound, OthersStand, RoundsAreCounted, SlotsLeaveTheRound, TopsRise}
+use Rattle.iteration_agree.specs.Moves.{Agrees, Allowed, Begins, Move, Notes, Opens, Packs, Quiets, Releases, Reports, Rewinds, Sees, after_moves, moved, mover}
+use Rattle.iteration_agree.specs.Laws.{AgreedStands, AgreedStandsOn, BeginsRaise, EachSlotMoves, IsRewind, NotesLeaveTheRound, OthersStand, RoundsAreCounted, SlotsLeaveTheRound, Stands, TopsRise}
 use Rattle.iteration_agree.proofs.Lists as lists
 use Rattle.iteration_agree.proofs.Holding.{has_place}
 
@@ -179,6 +179,13 @@ agreed_stands c (Opens floor) may is not = absurd (quiet_or_agreed c.round may.0
 agreed_stands c (Notes other) may is not = record { round = refl; taking = refl }
 agreed_stands c (Agrees taking) may is not = absurd (gather_or_agreed c.round may.0 is)
 agreed_stands c Quiets may is not = absurd (not refl)
+
+pub agreed_stands_on : AgreedStandsOn
+agreed_stands_on c [] all is none = record { round = refl; taking = refl }
+agreed_stands_on c (move ∷ more) all is none =
+    let one : Stands c (moved c move) = agreed_stands c move all.0 is none.0 in
+    let rest : Stands (moved c move) (after_moves (moved c move) more) = agreed_stands_on (moved c move) more all.1 (subst (λ x. IsAgreed x) (sym one.round) is) none.1 in
+    record { round = rest.round ∙ one.round; taking = rest.taking ∙ one.taking }
 
 pub rounds_counted : RoundsAreCounted
 unfolding seen_by begun_by reported_by packed_by rewound_by released_by noted opened agreed quieted

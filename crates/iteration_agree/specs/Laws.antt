@@ -78,6 +78,10 @@ pub record Stands (c new : CutState) : Type 0 where
 abbrev pub AgreedStands : Type 0
 AgreedStands = (c : CutState) (move : Move) → Allowed c move → IsAgreed c.round → move ≢ Quiets → Stands c (moved c move)
 
+-- over every list of moves
+abbrev pub AgreedStandsOn : Type 0
+AgreedStandsOn = (c : CutState) (moves : List Move) → AllAllowed c moves → IsAgreed c.round → AllByRecursion (λ move. move ≢ Quiets) moves → Stands c (after_moves c moves)
+
 -- ---- slots that have packed
 
 -- no release of this slot, and no way back for it beyond k

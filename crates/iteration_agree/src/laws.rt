@@ -1,6 +1,6 @@
 //! Laws of the agreement: each is called where it is wanted, and its clauses are facts from there on.
 
-ghost use Rattle.iteration_agree.specs.Laws.{AgreedIsGreatest, AgreedStands, AgreesOnGreatest, AgreesUnlessMissing, BeginsRaise, EachSlotMoves, EveryCutHolds, HoldsExactly, MovesKeep, NoneIsBegun, NotesLeaveTheRound, OthersStand, PackedWaits, RoundsAreCounted, SlotsLeaveTheRound, StartIsCut, TopsRise, TopsStayBelow};
+ghost use Rattle.iteration_agree.specs.Laws.{AgreedIsGreatest, AgreedStands, AgreedStandsOn, AgreesOnGreatest, AgreesUnlessMissing, BeginsRaise, EachSlotMoves, EveryCutHolds, HoldsExactly, MovesKeep, NoneIsBegun, NotesLeaveTheRound, OthersStand, PackedWaits, RoundsAreCounted, SlotsLeaveTheRound, StartIsCut, TopsRise, TopsStayBelow};
 ghost use Rattle.iteration_agree.specs.Looks.{ChangesRaise, LooksLower};
 
 /// Whatever allowed moves are made, in whatever order: `IsCut` holds at the start, each move keeps it, and every agreement
@@ -25,6 +25,7 @@ pub fn agreed_is_not_begun()
     ensures tops { TopsStayBelow }
     ensures begins { NoneIsBegun }
     ensures stands { AgreedStands }
+    ensures all { AgreedStandsOn }
 {}
 
 /// A slot that has packed begins nothing from the iteration at which it did until it is released, whatever rounds come
