@@ -1,2 +1,4 @@
 pub mod Cutting
 pub mod Capping
+pub mod Placed
+pub mod Holding
