@@ -2,7 +2,7 @@
 use Rattle.std.proofs.Common.{◌≡◌, ℕ, ◌+◌, ◌*◌, ◌^◌, ◌<◌, ◌≤◌, min, Bool, true, false, cond, List, Option, Some, None, refl, ap, sym, ◌∙◌, arith, inl, inr}
 use Rattle.std.specs.Prelude.{◌&&◌, IsTrue, nat_lt, unwrap_or, Result, Ok, Err}
 use Rattle.std.specs.Option.{is_none, is_some, option_map}
-use Rattle.std.proofs.lemmas.Bool.{cases_lt, and_parts, le-ltb, lt-ltb, ltb-true}
+use Rattle.std.proofs.lemmas.Bool.{cases_lt, le-ltb, lt-ltb}
 use Rattle.chare_base.specs.declared.plan.Array.{Array}
 use Rattle.chare_base.specs.declared.plan.Plan.{Plan}
 use Rattle.chare_base.specs.declared.plan.State.{State}
@@ -14,9 +14,10 @@ use Rattle.fault_script.specs.declared.meaning.LineFault.TheVariants as why
 use Rattle.fault_script.specs.Forms.{Cell, CrashLine, Element, FlipLine, Line, line}
 use Rattle.fault_script.specs.Forms as forms
 use Rattle.fault_script.specs.Held.{cell_capped, crash_capped, element_capped, flip_capped, line_capped}
-use Rattle.fault_script.specs.Meaning.{array_called, col, crash_fault, crash_within, crashed, fault_by, fault_in, flip_at, flip_fault, flip_in, flip_within, flipped, is_indexed, is_named, is_there, place, row, row_by, state_called}
+use Rattle.fault_script.specs.Meaning.{InRange, array_called, col, crash_fault, crash_within, crashed, fault_by, fault_in, flip_at, flip_fault, flip_in, flip_within, flipped, is_indexed, is_named, is_there, place, row, row_by, state_called}
 use Rattle.fault_script.specs.Numbers.{capped}
 use Rattle.fault_script.specs.Text.{words}
+use Rattle.fault_script.proofs.Ranges.{Crashes, crashes, in_range}
 use Rattle.fault_script.proofs.Placed.{ArrayIn, array_in, fits, cells_small}
 
 -- ---- numbers
@@ -83,20 +84,14 @@ module _ (iterations : ℕ) (f : FlipLine) (a : Array) (s : State) (often : iter
       λ i. same_below f.replica 2 two i && r i && c i && p i && same_above f.mask i && same_below f.mask (2 ^ 64) full i && same_below f.at iterations often i
 
   flipped_held : IsTrue (flip_within iterations f a s) → flipped (flip_capped f) a s ≡ flipped f a s
-  unfolding flip_within
   flipped_held h =
-      let at = and_parts _ _ h in
-      let mask = and_parts _ _ at.0 in
-      let some = and_parts _ _ mask.0 in
-      let place_in = and_parts _ _ some.0 in
-      let col_in = and_parts _ _ place_in.0 in
-      let row_in = and_parts _ _ col_in.0 in
-      let k : capped f.at ≡ f.at = same_number f.at (omega (arith, ltb-true f.at iterations at.1)) in
-      let m : capped f.mask ≡ f.mask = same_number f.mask (ltb-true f.mask (2 ^ 64) mask.1) in
-      let p : place (cell_capped f.cell) ≡ place f.cell = place_held f.cell.place ∙ same_number (place f.cell) (omega (arith, ltb-true (place f.cell) s.cells place_in.1)) in
-      let c : col (element_capped f.element) ≡ col f.element = col_held f.element.first f.element.second ∙ same_number (col f.element) (omega (arith, ltb-true (col f.element) a.cols col_in.1)) in
-      let r : row (element_capped f.element) ≡ row f.element = row_held f.element.first f.element.second ∙ same_number (row f.element) (omega (arith, ltb-true (row f.element) a.rows row_in.1)) in
-      let replica : capped f.replica ≡ f.replica = same_number f.replica (omega (arith, ltb-true f.replica 2 row_in.0)) in
+      let ranges : InRange f a s = in_range iterations f a s often h in
+      let k : capped f.at ≡ f.at = same_number f.at ranges.at in
+      let m : capped f.mask ≡ f.mask = same_number f.mask ranges.mask in
+      let p : place (cell_capped f.cell) ≡ place f.cell = place_held f.cell.place ∙ same_number (place f.cell) (omega (arith, ranges.place)) in
+      let c : col (element_capped f.element) ≡ col f.element = col_held f.element.first f.element.second ∙ same_number (col f.element) (omega (arith, ranges.col)) in
+      let r : row (element_capped f.element) ≡ row f.element = row_held f.element.first f.element.second ∙ same_number (row f.element) (omega (arith, ranges.row)) in
+      let replica : capped f.replica ≡ f.replica = same_number f.replica (omega (arith, ranges.replica)) in
       λ i. faults.Flip (replica i) (record { 0 = a.first + r i * a.cols + c i }) (s.at + p i) (m i) (k i)
 
   ranged_by : (t : Bool) → flip_within iterations f a s ≡ t →
@@ -138,13 +133,11 @@ module _ (p : Plan) (nodes : ℕ) (c : CrashLine) (few : nodes ≤ 2 ^ 64) where
       λ i. same_below c.replica 2 two i && same_below c.node nodes few i && same_below c.at p.iterations often i
 
   crashed_held : IsTrue (crash_within p.iterations nodes c) → crashed (crash_capped c) ≡ crashed c
-  unfolding crash_within
   crashed_held h =
-      let at = and_parts _ _ h in
-      let node_in = and_parts _ _ at.0 in
-      let r : capped c.replica ≡ c.replica = same_number c.replica (omega (arith, ltb-true c.replica 2 node_in.0)) in
-      let j : capped c.node ≡ c.node = same_number c.node (omega (arith, ltb-true c.node nodes node_in.1)) in
-      let k : capped c.at ≡ c.at = same_number c.at (omega (arith, ltb-true c.at p.iterations at.1, iterations_few p)) in
+      let ranges : Crashes p nodes c = crashes p nodes c h in
+      let r : capped c.replica ≡ c.replica = same_number c.replica (omega (arith, ranges.replica)) in
+      let j : capped c.node ≡ c.node = same_number c.node (omega (arith, ranges.node)) in
+      let k : capped c.at ≡ c.at = same_number c.at (omega (arith, ranges.at, iterations_few p)) in
       λ i. faults.Crash (record { replica = r i; node = j i }) (k i)
 
   crash_by : (t : Bool) → crash_within p.iterations nodes c ≡ t →

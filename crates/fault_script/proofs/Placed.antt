@@ -24,6 +24,9 @@ pub array_in : (p : Plan) (name : List ℕ) (a : Array) → array_called name p.
 array_in p name a e =
     record { number = position_or_len (λ (x : Array). bytes_eq name x.name) p.arrays; is = sym (find_at (λ (x : Array). bytes_eq name x.name) p.arrays) ∙ e }
 
+behind : (n size others first own : ℕ) → (n + size ≤ first) × (first + own ≤ n + size + others) → (n ≤ first) × (first + own ≤ n + (size + others))
+behind n size others first own h = (omega (arith, h.0), omega (arith, h.1))
+
 -- each array begins where the one before ends, from a number on
 numbered_at : (n k : ℕ) (arrays : List Array) (a : Array) → IsTrue (numbered_from n arrays) → slice_get arrays k ≡ Some a →
     (n ≤ a.first) × (a.first + size_of a ≤ n + elements_in arrays)
@@ -33,8 +36,7 @@ numbered_at n zero (b ∷ more) a h e =
     let first : b.first ≡ n = eqb-true b.first n (and_parts _ _ h).0 in
     subst (λ (x : Array). (n ≤ x.first) × (x.first + size_of x ≤ n + (size_of b + elements_in more))) same (omega arith, omega arith)
 numbered_at n (suc k) (b ∷ more) a h e =
-    let rest : (n + size_of b ≤ a.first) × (a.first + size_of a ≤ n + size_of b + elements_in more) = numbered_at (n + size_of b) k more a (and_parts _ _ h).1 e in
-    (omega (arith, rest.0), omega (arith, rest.1))
+    behind n (size_of b) (elements_in more) a.first (size_of a) (numbered_at (n + size_of b) k more a (and_parts _ _ h).1 e)
 
 placed_at : (n k : ℕ) (states : List State) (s : State) → IsTrue (placed_from n states) → slice_get states k ≡ Some s → s.at + s.cells ≤ n + cells_in states
 placed_at n k [] s h e = cc

@@ -20,7 +20,7 @@ added p nodes number line lines =
     if is_fault_line line then (if nat_lt (length lines) 64 then added_by number lines (fault_in p nodes line) else Err (faults.Lines number)) else Ok lines
 
 -- what is answered, and the lines that are then there, unless memory ran out
-abbrev pub Adds : {A : Type 0} → Result (List FaultLine) ScriptFault → Result A ScriptFault → List FaultLine → Type 0
+abbrev pub Adds : Result (List FaultLine) ScriptFault → Result (Unit {0}) ScriptFault → List FaultLine → Type 0
 Adds due (Ok x) lines = due ≡ Ok lines
 Adds due (Err faults.Memory) lines = Unit {0}
 Adds due (Err fault) lines = due ≡ Err fault
