@@ -1,0 +1,6 @@
+pub mod Cutting
+pub mod Capping
+pub mod Ranges
+pub mod Placed
+pub mod Holding
+pub mod Continuing

@@ -7,4 +7,10 @@
 #![tactic(auto)]
 
 pub mod fault;
+mod form;
+pub mod meaning;
+pub mod name;
+mod number;
+pub mod reading;
 pub mod script;
+mod text;
