@@ -1,12 +1,13 @@
 # Sourced by the scripts beside it: times `acr drill` and the same loops in C, and compares their answers.
 # usage: compare NAME ITERATIONS ELEMENTS WORK UNIT
-# WORK holds NAME.job and NAME.c; UNIT is what is counted per second, one for each element in each iteration.
+# WORK holds NAME.job and NAME.c; UNIT is what is counted per second, one for each element in each iteration. The variable
+# `options` holds words behind `drill`, as `--nodes 4`, if there are any.
 compare() {
   local name=$1 iterations=$2 elements=$3 work=$4 unit=$5
   local program ours plain
   program=$(cd "$(dirname "${BASH_SOURCE[0]}")" && pwd)/../crates/acr/out/acr
   cc -O2 -o "$work/$name" "$work/$name.c"
-  ours=$(seconds "$program" drill <"$work/$name.job")
+  ours=$(seconds "$program" drill ${options:-} <"$work/$name.job")
   grep '^answer' "$work/out" >"$work/ours"
   plain=$(seconds "$work/$name" "$iterations")
   cmp "$work/ours" "$work/out" && echo "answers agree"

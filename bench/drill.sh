@@ -1,8 +1,9 @@
 #!/usr/bin/env bash
 # Times `acr drill` on a job of 4,096 elements, 8 states and 8 steps, and the same loops in C.
-# usage: bench/drill.sh [ITERATIONS]    (build the program first: `cd crates/acr && rt run </dev/null`)
+# usage: bench/drill.sh [ITERATIONS [OPTIONS OF DRILL]]    (build the program first: `cd crates/acr && rt run </dev/null`)
 set -eu
 iterations=${1:-200}
+options=${*:2}
 . "$(dirname "$0")/compare.sh"
 work=$(mktemp -d)
 trap 'rm -rf "$work"' EXIT

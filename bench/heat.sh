@@ -1,9 +1,10 @@
 #!/usr/bin/env bash
 # Times `acr drill` on heat in 32 by 32 elements (`examples/heat.job`) that each send and receive four messages, and the
 # same loops in C.
-# usage: bench/heat.sh [ITERATIONS]    (build the program first: `cd crates/acr && rt run </dev/null`)
+# usage: bench/heat.sh [ITERATIONS [OPTIONS OF DRILL]]    (build the program first: `cd crates/acr && rt run </dev/null`)
 set -eu
 iterations=${1:-200}
+options=${*:2}
 . "$(dirname "$0")/compare.sh"
 work=$(mktemp -d)
 trap 'rm -rf "$work"' EXIT

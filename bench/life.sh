@@ -1,9 +1,10 @@
 #!/usr/bin/env bash
 # Times `acr drill` on the game of life (`examples/life.job`) in 64 by 64 elements that each send and receive eight
 # messages and take part in a reduction, and the same loops in C.
-# usage: bench/life.sh [ITERATIONS]    (build the program first: `cd crates/acr && rt run </dev/null`)
+# usage: bench/life.sh [ITERATIONS [OPTIONS OF DRILL]]    (build the program first: `cd crates/acr && rt run </dev/null`)
 set -eu
 iterations=${1:-1000}
+options=${*:2}
 . "$(dirname "$0")/compare.sh"
 work=$(mktemp -d)
 trap 'rm -rf "$work"' EXIT

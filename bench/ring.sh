@@ -1,8 +1,9 @@
 #!/usr/bin/env bash
 # Times `acr drill` on a ring of 4,096 elements that each send and receive once, and the same loops in C.
-# usage: bench/ring.sh [ITERATIONS]    (build the program first: `cd crates/acr && rt run </dev/null`)
+# usage: bench/ring.sh [ITERATIONS [OPTIONS OF DRILL]]    (build the program first: `cd crates/acr && rt run </dev/null`)
 set -eu
 iterations=${1:-200}
+options=${*:2}
 . "$(dirname "$0")/compare.sh"
 work=$(mktemp -d)
 trap 'rm -rf "$work"' EXIT

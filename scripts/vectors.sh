@@ -1,7 +1,8 @@
 #!/usr/bin/env bash
 # Runs the built program on every input NAME.in of a folder and compares its output and status with what is due.
 # usage: scripts/vectors.sh FOLDER    (build the program first: `cd crates/acr && rt run </dev/null`)
-# Due is NAME.out.whole where that is there, else NAME.out; with status 3 for refused_*, else 0. NAME.words, where it is
+# Due is NAME.out.whole where that is there, else NAME.out; with status 3 for refused_*, 2 where there are too many nodes,
+# else 0. NAME.words, where it is
 # there, has the words after `drill`, one a line. Ends with 1 where a case differs, with 2 where none could be run.
 set -u
 shopt -s nullglob
@@ -19,6 +20,7 @@ for input in "${inputs[@]}"; do
   [ ! -e "$name.words" ] || mapfile -t words <"$name.words"
   out=$name.out
   [ ! -e "$out.whole" ] || out=$out.whole
+  case $(head -n 1 "$out") in "nodes "*) want=2 ;; esac
   got=$("$program" drill "${words[@]}" <"$input"; echo "status $?")
   due=$(cat "$out" && echo "status $want")
   if [ "$got" = "$due" ]; then passed=$((passed + 1)); else failed=$((failed + 1)); echo "differs: $input"; fi

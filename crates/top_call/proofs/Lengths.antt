@@ -44,17 +44,17 @@ due_says (Some (Drill o schedule)) bytes text left' faults faults' Read due = tt
 due_says (Some (Drill o schedule)) bytes text left' faults faults' Usage due = tt
 due_says (Some (Drill o schedule)) bytes text left' faults faults' Write due = tt
 due_says (Some (Drill o schedule)) bytes text left' faults faults' Memory due = tt
-due_says (Some (Drill o schedule)) bytes text left' faults faults' Done (input, (came, due)) = says o schedule bytes input text left' Done came due
-due_says (Some (Drill o schedule)) bytes text left' faults faults' Job (input, (came, due)) = says o schedule bytes input text left' Job came due
-due_says (Some (Drill o schedule)) bytes text left' faults faults' Long (input, (came, due)) = says o schedule bytes input text left' Long came due
-due_says (Some (Drill o schedule)) bytes text left' faults faults' Still (input, (came, due)) = says o schedule bytes input text left' Still came due
+due_says (Some (Drill o schedule)) bytes text left' faults faults' Done (input, came, due) = says o schedule bytes input text left' Done came due
+due_says (Some (Drill o schedule)) bytes text left' faults faults' Job (input, came, due) = says o schedule bytes input text left' Job came due
+due_says (Some (Drill o schedule)) bytes text left' faults faults' Long (input, came, due) = says o schedule bytes input text left' Long came due
+due_says (Some (Drill o schedule)) bytes text left' faults faults' Still (input, came, due) = says o schedule bytes input text left' Still came due
 
 pub exact : LongIsExact
-exact words bytes left' faults faults' given given' count count' Done (text, (due, all)) = due_says (asked words) bytes text left' faults faults' Done due
+exact words bytes left' faults faults' given given' count count' Done (text, due, all) = due_says (asked words) bytes text left' faults faults' Done due
 exact words bytes left' faults faults' given given' count count' Usage h = tt
-exact words bytes left' faults faults' given given' count count' Job (text, (due, all)) = due_says (asked words) bytes text left' faults faults' Job due
-exact words bytes left' faults faults' given given' count count' Long (text, (due, all)) = due_says (asked words) bytes text left' faults faults' Long due
-exact words bytes left' faults faults' given given' count count' Still (text, (due, all)) = due_says (asked words) bytes text left' faults faults' Still due
+exact words bytes left' faults faults' given given' count count' Job (text, due, all) = due_says (asked words) bytes text left' faults faults' Job due
+exact words bytes left' faults faults' given given' count count' Long (text, due, all) = due_says (asked words) bytes text left' faults faults' Long due
+exact words bytes left' faults faults' given given' count count' Still (text, due, all) = due_says (asked words) bytes text left' faults faults' Still due
 exact words bytes left' faults faults' given given' count count' Read h = tt
 exact words bytes left' faults faults' given given' count count' Write h = tt
 exact words bytes left' faults faults' given given' count count' Memory h = tt

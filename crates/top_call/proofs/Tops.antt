@@ -32,11 +32,11 @@ module _ (words : List (String Global)) (left left' : Option (List ℕ)) (faults
 
   none_written : (c : Option Command) → DueBy c left left' faults faults' Write text → ⊥
   none_written None due = due
-  none_written (Some (Drill o schedule)) (input, (came, due)) = due.1.2.2
+  none_written (Some (Drill o schedule)) (input, came, due) = due.1.2
 
   none_kept : (c : Option Command) → DueBy c left left' faults faults' Memory text → ⊥
   none_kept None due = due
-  none_kept (Some (Drill o schedule)) (input, (came, due)) = due.1.2.2
+  none_kept (Some (Drill o schedule)) (input, came, due) = due.1.2
 
   whole : (status : Status) → IsDue status → Appends given given' text → Clause status
   whole Done due all = (text, due, all)
@@ -59,9 +59,9 @@ module _ (words : List (String Global)) (left left' : Option (List ℕ)) (faults
   after command input came Job due = (input, came, due)
   after command input came Long due = (input, came, due)
   after command input came Still due = (input, came, due)
-  after (Drill o schedule) input came Read due = absurd due.1.2.2
-  after (Drill o schedule) input came Write due = absurd due.1.2.2
-  after (Drill o schedule) input came Memory due = absurd due.1.2.2
+  after (Drill o schedule) input came Read due = absurd due.1.2
+  after (Drill o schedule) input came Write due = absurd due.1.2
+  after (Drill o schedule) input came Memory due = absurd due.1.2
 
   pub due_of : (command : Command) (input piece made : List ℕ) (status : Status) → asked words ≡ Some command → Came left left' input → piece ≡ input → text ≡ made → Due command piece status made → IsDue status
   due_of command input piece made status asks came same is due =

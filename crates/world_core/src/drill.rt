@@ -78,7 +78,15 @@ pub fn run<M: Placement>(
     let nodes = map.nodes();
     let turns = turns(plan, script.len(), nodes);
     let mut world = World::start(alloc, plan, script, options, map)?;
-    go(alloc, plan, script, map, opening_chooser(nodes, schedule), turns, &mut world)?;
+    go(
+        alloc,
+        plan,
+        script,
+        map,
+        opening_chooser(nodes, schedule),
+        turns,
+        &mut world,
+    )?;
     Ok(world)
 }
 

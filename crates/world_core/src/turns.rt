@@ -16,7 +16,10 @@ pub fn turns(plan: &Plan, lines: usize, nodes: u16) -> u64
     let slots = 2 * u64::from(nodes);
     let reductions = plan.reductions.as_slice().len() as u64;
     let factor = (lines as u64 + 1) * 32 * (plan.iterations() + 130);
-    let width = joined(joined(widths(plan), times(slots, reductions)), slots * slots);
+    let width = joined(
+        joined(widths(plan), times(slots, reductions)),
+        slots * slots,
+    );
     times(factor, width)
 }
 

@@ -12,10 +12,10 @@ loop-i-preserved g c =
     let on = ready_on c.args.plan.now nodes c.args.world.now c.loop-i.i (n - c.loop-i.i) (n - (c.loop-i.i + 1)) c.loop-i.ready.items (c.args.ready.now.items ++ ready_from c.args.plan.now nodes c.args.world.now 0 n) in
     let here = c.enabled.ensures ∙ ap (enabled c.args.plan.now nodes c.args.world.now) (c.actor_at.ensures ∙ ap (λ m. actor_at m c.loop-i.i) c.nodes-nodes.ensures.exact) in
     elim c.if-is_some.branch [
-        then-is_some+in_ok-push w ↦
-            on c.if-is_some.ready.items true (omega (arith, c.loop-i-test.true)) (omega arith) (sym (ap is_some here) ∙ sym c.is_some.ensures ∙ w.if-is_some.true)
-            (ap (λ v. v.items) w.ready-is ∙ w.in_ok-push.ensures.items) c.loop-i.invariant
+      | then-is_some+in_ok-push w ↦
+          on c.if-is_some.ready.items true (omega (arith, c.loop-i-test.true)) (omega arith) (sym (ap is_some here) ∙ sym c.is_some.ensures ∙ w.if-is_some.true)
+          (ap (λ v. v.items) w.ready-is ∙ w.in_ok-push.ensures.items) c.loop-i.invariant
       | else-is_some w ↦
-            on c.if-is_some.ready.items false (omega (arith, c.loop-i-test.true)) (omega arith) (sym (ap is_some here) ∙ sym c.is_some.ensures ∙ w.if-is_some.false)
-            (ap (λ v. v.items) w.ready-is) c.loop-i.invariant
+          on c.if-is_some.ready.items false (omega (arith, c.loop-i-test.true)) (omega arith) (sym (ap is_some here) ∙ sym c.is_some.ensures ∙ w.if-is_some.false)
+          (ap (λ v. v.items) w.ready-is) c.loop-i.invariant
     ]
