@@ -4,3 +4,5 @@ pub mod Ranges
 pub mod Placed
 pub mod Holding
 pub mod Continuing
+pub mod Following
+pub mod Fitting

@@ -1,7 +1,7 @@
 -- Arrays and states that are found by name, and where their elements and cells are.
-use Rattle.std.proofs.Common.{◌≡◌, ℕ, zero, suc, ◌+◌, ◌*◌, ◌<◌, ◌≤◌, List, [], ◌∷◌, Option, Some, None, refl, sym, ◌∙◌, subst, arith}
+use Rattle.std.proofs.Common.{◌≡◌, ℕ, zero, suc, ◌+◌, ◌≤◌, List, [], ◌∷◌, Some, sym, ◌∙◌, subst, arith}
 use Rattle.std.specs.Prelude.{IsTrue, slice_get}
-use Rattle.std.specs.List.{find, position_or_len}
+use Rattle.std.specs.List.{position_or_len}
 use Rattle.std.specs.Str.{bytes_eq}
 use Rattle.std.proofs.lemmas.Bool.{and_parts, eqb-true}
 use Rattle.std.proofs.lemmas.List.Folds.{find_at}
@@ -28,7 +28,7 @@ behind : (n size others first own : ℕ) → (n + size ≤ first) × (first + ow
 behind n size others first own h = (omega (arith, h.0), omega (arith, h.1))
 
 -- each array begins where the one before ends, from a number on
-numbered_at : (n k : ℕ) (arrays : List Array) (a : Array) → IsTrue (numbered_from n arrays) → slice_get arrays k ≡ Some a →
+pub numbered_at : (n k : ℕ) (arrays : List Array) (a : Array) → IsTrue (numbered_from n arrays) → slice_get arrays k ≡ Some a →
     (n ≤ a.first) × (a.first + size_of a ≤ n + elements_in arrays)
 numbered_at n k [] a h e = cc
 numbered_at n zero (b ∷ more) a h e =

@@ -8,3 +8,5 @@ pub mod Meaning
 pub mod Reading
 pub mod Held
 pub mod OneLine
+pub mod Laws
+pub mod Wording

@@ -1,5 +1,5 @@
 -- Which texts are scripts, and the first fault of the others.
-use Rattle.std.specs.Prelude.{◌≡◌, ℕ, Bool, if◌then◌else◌, nat_lt, List, [], ◌∷◌, Option, Some, None, Result, Ok, Err}
+use Rattle.std.specs.Prelude.{◌≡◌, ℕ, if◌then◌else◌, nat_lt, List, [], ◌∷◌, Option, Some, None, Result, Ok, Err}
 use Rattle.std.specs.List.{enumerate_from, filter_map}
 use Rattle.chare_base.specs.declared.plan.Plan.{Plan}
 use Rattle.fault_script.specs.declared.fault.Fault.{Fault}

@@ -8,6 +8,7 @@
 
 pub mod fault;
 mod form;
+pub mod laws;
 pub mod meaning;
 pub mod name;
 mod number;

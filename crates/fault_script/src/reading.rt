@@ -3,6 +3,7 @@
 ghost use Rattle.std.specs.Prelude.{◌≡◌, ◌<◌, ◌≤◌, length};
 ghost use Rattle.fault_script.specs.declared.reading.ScriptFault.TheVariants as faults;
 ghost use Rattle.fault_script.specs.Reading.{Reads, script_of};
+ghost use Rattle.fault_script.specs.Wording.{line_told, word_told};
 ghost use Rattle.fault_script.specs.OneLine.{Adds, added};
 
 use crate::fault::FaultLine;
@@ -15,7 +16,7 @@ use std::alloc::{AllocError, AllocFailed, Global};
 use thiserror::Error;
 
 /// Fault lines of a script, at most.
-pub const MOST: usize = 64;
+pub const LINES: usize = 64;
 
 /// Why a text is no script for a plan and nodes. `line` is the number of a line of the text, from 1.
 #[derive(Clone, Copy, Debug, PartialEq, Eq, Error)]
@@ -55,7 +56,9 @@ impl<T: Drop> From<AllocFailed<T>> for ScriptFault {
 
 impl ScriptFault {
     /// The number of the line, 0 where memory ran out.
-    pub fn line(self) -> u32 {
+    pub fn line(self) -> u32
+        ensures { result ≡ line_told self }
+    {
         match self {
             ScriptFault::Lines { line }
             | ScriptFault::Form { line }
@@ -66,7 +69,9 @@ impl ScriptFault {
     }
 
     /// The word of the fault, empty where memory ran out.
-    pub fn word(self) -> &'static [u8] {
+    pub fn word(self) -> &'static [u8]
+        ensures { result.now ≡ word_told self }
+    {
         match self {
             ScriptFault::Lines { .. } => b"lines".as_slice(),
             ScriptFault::Form { .. } => b"form".as_slice(),
@@ -90,7 +95,7 @@ pub fn read_script(
     requires { length bytes.now < 4294967295 }
     ensures { Reads (script_of plan.now nodes bytes.now) result }
 {
-    let mut lines = Vec::with_capacity(alloc, MOST)?;
+    let mut lines = Vec::with_capacity(alloc, LINES)?;
     let mut rest = bytes;
     let mut number = 1;
     'lines: while let Some((line, more)) = first_line(rest) {
@@ -116,7 +121,7 @@ fn add_line(
     if !is_fault_line(line) {
         return Ok(());
     }
-    if lines.len() >= MOST {
+    if lines.len() >= LINES {
         return Err(ScriptFault::Lines { line: number });
     }
     match fault_in(line, plan, nodes) {

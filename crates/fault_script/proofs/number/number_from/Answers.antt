@@ -1,5 +1,4 @@
-use Rattle.std.proofs.Common.{arith, ap, ◌∙◌, ◌+◌, ◌*◌}
-use Rattle.fault_script.specs.Numbers.{capped, digit_value, number_from}
+use Rattle.fault_script.specs.Numbers.{capped, number_from}
 use Rattle.fault_script.proofs.Capping.{digit_next, digits_end}
 use Rattle.fault_script.proofs.number.number_from.Goals as goal
 

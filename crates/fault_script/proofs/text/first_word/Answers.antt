@@ -1,4 +1,4 @@
-use Rattle.std.proofs.Common.{sym, ◌∙◌, ap, ◌∷◌, [], ℕ, List, Bor, Some, None}
+use Rattle.std.proofs.Common.{sym, ◌∙◌, ap, ◌∷◌, ℕ, List, Bor, Some, None}
 use Rattle.std.specs.Option.{option_map}
 use Rattle.fault_script.specs.Text.{words}
 use Rattle.fault_script.proofs.Cutting.{no_word, no_words, word_next}
