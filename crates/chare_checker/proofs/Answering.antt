@@ -11,13 +11,13 @@ use Rattle.chare_base.specs.declared.plan.State.{State}
 use Rattle.chare_base.specs.declared.range.Range.{Range}
 use Rattle.chare_base.specs.Ranges.{answer_in_range, cell_of_array, state_there}
 use Rattle.chare_base.specs.Sizes.{cells_in, size_of}
-use Rattle.chare_syntax.specs.declared.token.Num.{Num}
-use Rattle.chare_syntax.specs.declared.token.Span.{Span}
-use Rattle.chare_syntax.specs.declared.tree.AnswerDecl.{AnswerDecl}
-use Rattle.chare_syntax.specs.declared.tree.AnswerDecl.TheVariants as answers
-use Rattle.chare_syntax.specs.declared.tree.ArrayDecl.{ArrayDecl}
-use Rattle.chare_syntax.specs.declared.tree.Coordinates.{Coordinates}
-use Rattle.chare_syntax.specs.declared.tree.Job.{Job}
+use Rattle.job_tree.specs.declared.token.Num.{Num}
+use Rattle.job_tree.specs.declared.token.Span.{Span}
+use Rattle.job_tree.specs.declared.tree.AnswerDecl.{AnswerDecl}
+use Rattle.job_tree.specs.declared.tree.AnswerDecl.TheVariants as answers
+use Rattle.job_tree.specs.declared.tree.ArrayDecl.{ArrayDecl}
+use Rattle.job_tree.specs.declared.tree.Coordinates.{Coordinates}
+use Rattle.job_tree.specs.declared.tree.Job.{Job}
 use Rattle.chare_checker.specs.declared.fault.CheckFault.TheVariants as faults
 use Rattle.chare_checker.specs.declared.names.Meaning.{Meaning}
 use Rattle.chare_checker.specs.declared.names.Meaning.TheVariants as meanings

@@ -2,8 +2,8 @@
 use Rattle.std.proofs.Common.{◌≡◌, ℕ, List, length, None, Some, Err, ap, sym, ◌∙◌}
 use Rattle.std.specs.Prelude.{IsTrue}
 use Rattle.chare_base.specs.Elements.{Fields}
-use Rattle.chare_syntax.specs.declared.tree.Job.{Job}
-use Rattle.chare_syntax.specs.Accepted.{is_filled, is_shallow, names_lie}
+use Rattle.job_tree.specs.declared.tree.Job.{Job}
+use Rattle.job_tree.specs.Accepted.{is_filled, is_shallow, names_lie}
 use Rattle.chare_checker.specs.declared.fault.CheckFault.{CheckFault}
 use Rattle.chare_checker.specs.declared.fault.CheckFault.TheVariants as faults
 use Rattle.chare_checker.specs.declared.tables.JobNames.{JobNames}

@@ -11,16 +11,16 @@ use Rattle.chare_base.specs.declared.plan.Stmt.TheVariants as stmts
 use Rattle.chare_base.specs.declared.plan.Stmt.TheOpen.{Stmt-F}
 use Rattle.chare_base.specs.declared.plan.Stmt.TheFolds.{fold-roll-Stmt}
 use Rattle.chare_base.specs.Costs as p
-use Rattle.chare_syntax.specs.declared.token.Span.{Span}
-use Rattle.chare_syntax.specs.declared.tree.ArrayDecl.{ArrayDecl}
-use Rattle.chare_syntax.specs.declared.tree.Block.{Block, roll-Block}
-use Rattle.chare_syntax.specs.declared.tree.PartDecl.{PartDecl}
-use Rattle.chare_syntax.specs.declared.tree.StepBody.{StepBody}
-use Rattle.chare_syntax.specs.declared.tree.StepBody.TheVariants as bodies
-use Rattle.chare_syntax.specs.declared.tree.StepDecl.{StepDecl}
-use Rattle.chare_syntax.specs.declared.tree.StmtDecl.{StmtDecl, roll-StmtDecl}
-use Rattle.chare_syntax.specs.declared.tree.StmtDecl.TheOpen.{Block-F, StmtDecl-F}
-use Rattle.chare_syntax.specs.declared.tree.StmtDecl.TheFolds.{fold-roll-Block, fold-roll-StmtDecl, map-StmtDecl, map-Block, ind-StmtDecl, ind-Block}
+use Rattle.job_tree.specs.declared.token.Span.{Span}
+use Rattle.job_tree.specs.declared.tree.ArrayDecl.{ArrayDecl}
+use Rattle.job_tree.specs.declared.tree.Block.{Block, roll-Block}
+use Rattle.job_tree.specs.declared.tree.PartDecl.{PartDecl}
+use Rattle.job_tree.specs.declared.tree.StepBody.{StepBody}
+use Rattle.job_tree.specs.declared.tree.StepBody.TheVariants as bodies
+use Rattle.job_tree.specs.declared.tree.StepDecl.{StepDecl}
+use Rattle.job_tree.specs.declared.tree.StmtDecl.{StmtDecl, roll-StmtDecl}
+use Rattle.job_tree.specs.declared.tree.StmtDecl.TheOpen.{Block-F, StmtDecl-F}
+use Rattle.job_tree.specs.declared.tree.StmtDecl.TheFolds.{fold-roll-Block, fold-roll-StmtDecl, map-StmtDecl, map-Block, ind-StmtDecl, ind-Block}
 use Rattle.chare_checker.specs.declared.tables.JobNames.{JobNames}
 use Rattle.chare_checker.specs.Costs as t
 use Rattle.chare_checker.specs.Names.{Known, bytes_at, lookup}

@@ -3,16 +3,16 @@ use Rattle.std.proofs.Common.{◌≡◌, ℕ, zero, suc, ◌+◌, ◌*◌, ◌<�
 use Rattle.std.specs.Prelude.{◌&&◌, not, nat_lt, nat_le, min}
 use Rattle.std.specs.List.{list_all}
 use Rattle.std.proofs.lemmas.Bool.{and_parts, le-leb, leb-true, ltb-false}
-use Rattle.chare_syntax.specs.declared.token.Num.{Num}
-use Rattle.chare_syntax.specs.declared.tree.AnswerDecl.{AnswerDecl}
-use Rattle.chare_syntax.specs.declared.tree.ArrayDecl.{ArrayDecl}
-use Rattle.chare_syntax.specs.declared.tree.Job.{Job}
-use Rattle.chare_syntax.specs.declared.tree.MemberDecl.{MemberDecl}
-use Rattle.chare_syntax.specs.declared.tree.PartDecl.{PartDecl}
-use Rattle.chare_syntax.specs.declared.tree.StateDecl.{StateDecl}
-use Rattle.chare_syntax.specs.declared.tree.StepBody.{StepBody}
-use Rattle.chare_syntax.specs.declared.tree.StepBody.TheVariants as bodies
-use Rattle.chare_syntax.specs.declared.tree.StepDecl.{StepDecl}
+use Rattle.job_tree.specs.declared.token.Num.{Num}
+use Rattle.job_tree.specs.declared.tree.AnswerDecl.{AnswerDecl}
+use Rattle.job_tree.specs.declared.tree.ArrayDecl.{ArrayDecl}
+use Rattle.job_tree.specs.declared.tree.Job.{Job}
+use Rattle.job_tree.specs.declared.tree.MemberDecl.{MemberDecl}
+use Rattle.job_tree.specs.declared.tree.PartDecl.{PartDecl}
+use Rattle.job_tree.specs.declared.tree.StateDecl.{StateDecl}
+use Rattle.job_tree.specs.declared.tree.StepBody.{StepBody}
+use Rattle.job_tree.specs.declared.tree.StepBody.TheVariants as bodies
+use Rattle.job_tree.specs.declared.tree.StepDecl.{StepDecl}
 use Rattle.chare_checker.specs.declared.fault.CheckFault.TheVariants.{Bound, Limit}
 use Rattle.chare_checker.specs.declared.fault.LimitKind.{LimitKind}
 use Rattle.chare_checker.specs.declared.fault.LimitKind.TheVariants.{Arrays, States, Entries, Steps, Parts, Answers, Elements, Cells, AllCells, Cost}

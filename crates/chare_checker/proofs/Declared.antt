@@ -1,12 +1,12 @@
 -- Where no declaration breaks a rule.
 use Rattle.std.proofs.Common.{◌≡◌, ℕ, suc, Bool, true, false, List, [], ◌∷◌, Option, None, Some, refl, ap, sym, ◌∙◌}
 use Rattle.std.specs.Prelude.{◌||◌, is_none}
-use Rattle.chare_syntax.specs.declared.tree.ArrayDecl.{ArrayDecl}
-use Rattle.chare_syntax.specs.declared.tree.Coordinates.{Coordinates}
-use Rattle.chare_syntax.specs.declared.tree.EntryDecl.{EntryDecl}
-use Rattle.chare_syntax.specs.declared.tree.Job.{Job}
-use Rattle.chare_syntax.specs.declared.tree.MemberDecl.{MemberDecl}
-use Rattle.chare_syntax.specs.declared.tree.StateDecl.{StateDecl}
+use Rattle.job_tree.specs.declared.tree.ArrayDecl.{ArrayDecl}
+use Rattle.job_tree.specs.declared.tree.Coordinates.{Coordinates}
+use Rattle.job_tree.specs.declared.tree.EntryDecl.{EntryDecl}
+use Rattle.job_tree.specs.declared.tree.Job.{Job}
+use Rattle.job_tree.specs.declared.tree.MemberDecl.{MemberDecl}
+use Rattle.job_tree.specs.declared.tree.StateDecl.{StateDecl}
 use Rattle.chare_checker.specs.declared.fault.CheckFault.TheVariants.{Shape, Unknown}
 use Rattle.chare_checker.specs.declared.tables.Counts.{Counts}
 use Rattle.chare_checker.specs.declared.tables.JobNames.{JobNames}

@@ -14,15 +14,15 @@ use Rattle.chare_base.specs.declared.plan.State.{State}
 use Rattle.chare_base.specs.Limits.{between, entry_fits, name_fits, offset_fits, reduction_fits}
 use Rattle.chare_base.specs.Ports.{entry_port, total_port}
 use Rattle.chare_base.specs.Ranges.{entry_in_range, exchanged, no_offset, reduction_in_range, same_shape}
-use Rattle.chare_syntax.specs.declared.token.Num.{Num}
-use Rattle.chare_syntax.specs.declared.token.Span.{Span}
-use Rattle.chare_syntax.specs.declared.tree.ArrayDecl.{ArrayDecl}
-use Rattle.chare_syntax.specs.declared.tree.Coordinates.{Coordinates}
-use Rattle.chare_syntax.specs.declared.tree.EntryDecl.{EntryDecl}
-use Rattle.chare_syntax.specs.declared.tree.MemberDecl.{MemberDecl}
-use Rattle.chare_syntax.specs.declared.tree.MemberDecl.TheVariants as members
-use Rattle.chare_syntax.specs.declared.tree.ReduceDecl.{ReduceDecl}
-use Rattle.chare_syntax.specs.declared.tree.SignedNum.{SignedNum}
+use Rattle.job_tree.specs.declared.token.Num.{Num}
+use Rattle.job_tree.specs.declared.token.Span.{Span}
+use Rattle.job_tree.specs.declared.tree.ArrayDecl.{ArrayDecl}
+use Rattle.job_tree.specs.declared.tree.Coordinates.{Coordinates}
+use Rattle.job_tree.specs.declared.tree.EntryDecl.{EntryDecl}
+use Rattle.job_tree.specs.declared.tree.MemberDecl.{MemberDecl}
+use Rattle.job_tree.specs.declared.tree.MemberDecl.TheVariants as members
+use Rattle.job_tree.specs.declared.tree.ReduceDecl.{ReduceDecl}
+use Rattle.job_tree.specs.declared.tree.SignedNum.{SignedNum}
 use Rattle.chare_checker.specs.declared.fault.CheckFault.TheVariants.{Twice}
 use Rattle.chare_checker.specs.declared.notes.PortUse.{PortUse}
 use Rattle.chare_checker.specs.declared.tables.Counts.{Counts}

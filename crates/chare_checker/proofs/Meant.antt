@@ -14,10 +14,10 @@ use Rattle.chare_base.specs.declared.scope.Scope.{Scope}
 use Rattle.chare_base.specs.Overlap.{state_range}
 use Rattle.chare_base.specs.Ranges.{indexed_at, part_scope, plain_at}
 use Rattle.chare_base.specs.Uses.{Cells, meet, range_of}
-use Rattle.chare_syntax.specs.declared.token.Span.{Span}
-use Rattle.chare_syntax.specs.declared.tree.Expr.{Expr as ExprDecl}
-use Rattle.chare_syntax.specs.declared.tree.Here.{Here}
-use Rattle.chare_syntax.specs.declared.tree.Here.TheVariants as heres
+use Rattle.job_tree.specs.declared.token.Span.{Span}
+use Rattle.job_tree.specs.declared.tree.Expr.{Expr as ExprDecl}
+use Rattle.job_tree.specs.declared.tree.Here.{Here}
+use Rattle.job_tree.specs.declared.tree.Here.TheVariants as heres
 use Rattle.chare_checker.specs.declared.fault.CheckFault.TheVariants as faults
 use Rattle.chare_checker.specs.declared.names.Meaning.{Meaning}
 use Rattle.chare_checker.specs.declared.names.Meaning.TheVariants as meanings

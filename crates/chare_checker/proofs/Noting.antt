@@ -16,22 +16,22 @@ use Rattle.chare_base.specs.Overlap.{state_range}
 use Rattle.chare_base.specs.Ranges as r
 use Rattle.chare_base.specs.Uses as u
 use Rattle.chare_base.specs.Uses.{Cells, any_of, meet, range_of, reads, reads_in_factor, reads_in_term}
-use Rattle.chare_syntax.specs.declared.token.Span.{Span}
-use Rattle.chare_syntax.specs.declared.tree.Choice.{Choice}
-use Rattle.chare_syntax.specs.declared.tree.Choice.TheVariants as choices
-use Rattle.chare_syntax.specs.declared.tree.Here.{Here}
-use Rattle.chare_syntax.specs.declared.tree.Here.TheVariants as heres
-use Rattle.chare_syntax.specs.declared.tree.Atom.{Atom, roll-Atom}
-use Rattle.chare_syntax.specs.declared.tree.Test.{Test, roll-Test}
-use Rattle.chare_syntax.specs.declared.tree.Unary.{Unary, roll-Unary}
-use Rattle.chare_syntax.specs.declared.tree.Conj.{Conj, roll-Conj}
-use Rattle.chare_syntax.specs.declared.tree.Expr.{Expr as ExprDecl, roll-Expr as roll-ExprDecl}
-use Rattle.chare_syntax.specs.declared.tree.Product.{Product, roll-Product}
-use Rattle.chare_syntax.specs.declared.tree.ProductTerm.{ProductTerm, roll-ProductTerm}
-use Rattle.chare_syntax.specs.declared.tree.Sum.{Sum, roll-Sum}
-use Rattle.chare_syntax.specs.declared.tree.SumTerm.{SumTerm, roll-SumTerm}
-use Rattle.chare_syntax.specs.declared.tree.Atom.TheOpen.{Atom-F, Test-F, Unary-F, Conj-F, Expr-F as ExprDecl-F, Product-F, ProductTerm-F, Sum-F, SumTerm-F}
-use Rattle.chare_syntax.specs.declared.tree.Atom.TheFolds as tree
+use Rattle.job_tree.specs.declared.token.Span.{Span}
+use Rattle.job_tree.specs.declared.tree.Choice.{Choice}
+use Rattle.job_tree.specs.declared.tree.Choice.TheVariants as choices
+use Rattle.job_tree.specs.declared.tree.Here.{Here}
+use Rattle.job_tree.specs.declared.tree.Here.TheVariants as heres
+use Rattle.job_tree.specs.declared.tree.Atom.{Atom, roll-Atom}
+use Rattle.job_tree.specs.declared.tree.Test.{Test, roll-Test}
+use Rattle.job_tree.specs.declared.tree.Unary.{Unary, roll-Unary}
+use Rattle.job_tree.specs.declared.tree.Conj.{Conj, roll-Conj}
+use Rattle.job_tree.specs.declared.tree.Expr.{Expr as ExprDecl, roll-Expr as roll-ExprDecl}
+use Rattle.job_tree.specs.declared.tree.Product.{Product, roll-Product}
+use Rattle.job_tree.specs.declared.tree.ProductTerm.{ProductTerm, roll-ProductTerm}
+use Rattle.job_tree.specs.declared.tree.Sum.{Sum, roll-Sum}
+use Rattle.job_tree.specs.declared.tree.SumTerm.{SumTerm, roll-SumTerm}
+use Rattle.job_tree.specs.declared.tree.Atom.TheOpen.{Atom-F, Test-F, Unary-F, Conj-F, Expr-F as ExprDecl-F, Product-F, ProductTerm-F, Sum-F, SumTerm-F}
+use Rattle.job_tree.specs.declared.tree.Atom.TheFolds as tree
 use Rattle.chare_checker.specs.declared.notes.Notes.{Notes}
 use Rattle.chare_checker.specs.declared.notes.StateUse.{StateUse}
 use Rattle.chare_checker.specs.declared.walk.Site.{Site}

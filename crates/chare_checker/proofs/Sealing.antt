@@ -17,21 +17,21 @@ use Rattle.chare_base.specs.Overlap.{array_apart, overlaps_hold}
 use Rattle.chare_base.specs.Ports.{ports_hold}
 use Rattle.chare_base.specs.Ranges.{answer_in_range, arrays_in_range, entry_in_range, ranges_hold, reduction_in_range}
 use Rattle.chare_base.specs.Rules.{rules_hold}
-use Rattle.chare_syntax.specs.declared.token.Span.{Span}
-use Rattle.chare_syntax.specs.declared.tree.AnswerDecl.{AnswerDecl}
-use Rattle.chare_syntax.specs.declared.tree.ArrayDecl.{ArrayDecl}
-use Rattle.chare_syntax.specs.declared.tree.Job.{Job}
-use Rattle.chare_syntax.specs.declared.tree.MemberDecl.{MemberDecl}
-use Rattle.chare_syntax.specs.declared.tree.MemberDecl.TheVariants as members
-use Rattle.chare_syntax.specs.declared.tree.PartDecl.{PartDecl}
-use Rattle.chare_syntax.specs.declared.tree.StateDecl.{StateDecl}
-use Rattle.chare_syntax.specs.declared.tree.StepBody.{StepBody}
-use Rattle.chare_syntax.specs.declared.tree.StepBody.TheVariants as bodies
-use Rattle.chare_syntax.specs.declared.tree.StepDecl.{StepDecl}
-use Rattle.chare_syntax.specs.Accepted.{array_is_filled, is_filled, is_shallow, names_lie, span_lies, step_is_filled, word_lies}
-use Rattle.chare_syntax.specs.Spelling as s
-use Rattle.chare_syntax.specs.Word.{Word, level_of}
-use Rattle.chare_syntax.proofs.Parts.{ArrayWords, BodyWords, Holds, JobWords, array_words, job_levels, job_names as names_told, member_words, part_words, state_words, step_words}
+use Rattle.job_tree.specs.declared.token.Span.{Span}
+use Rattle.job_tree.specs.declared.tree.AnswerDecl.{AnswerDecl}
+use Rattle.job_tree.specs.declared.tree.ArrayDecl.{ArrayDecl}
+use Rattle.job_tree.specs.declared.tree.Job.{Job}
+use Rattle.job_tree.specs.declared.tree.MemberDecl.{MemberDecl}
+use Rattle.job_tree.specs.declared.tree.MemberDecl.TheVariants as members
+use Rattle.job_tree.specs.declared.tree.PartDecl.{PartDecl}
+use Rattle.job_tree.specs.declared.tree.StateDecl.{StateDecl}
+use Rattle.job_tree.specs.declared.tree.StepBody.{StepBody}
+use Rattle.job_tree.specs.declared.tree.StepBody.TheVariants as bodies
+use Rattle.job_tree.specs.declared.tree.StepDecl.{StepDecl}
+use Rattle.job_tree.specs.Accepted.{array_is_filled, is_filled, is_shallow, names_lie, span_lies, step_is_filled, word_lies}
+use Rattle.job_tree.specs.Spelling as s
+use Rattle.job_tree.specs.Word.{Word, level_of}
+use Rattle.job_tree.proofs.Parts.{ArrayWords, BodyWords, Holds, JobWords, array_words, job_levels, job_names as names_told, member_words, part_words, state_words, step_words}
 use Rattle.chare_checker.specs.declared.fault.CheckFault.TheVariants.{Twice}
 use Rattle.chare_checker.specs.declared.notes.Notes.{Notes}
 use Rattle.chare_checker.specs.declared.notes.PortUse.{PortUse}

@@ -18,9 +18,9 @@ use Rattle.chare_base.specs.Names.{array_name, distinct_by, distinct_entries, di
 use Rattle.chare_base.specs.Ports as b
 use Rattle.chare_base.specs.Ports.{array_sends_directly, entry_port, port_holds, ports_hold, total_port}
 use Rattle.chare_base.specs.Ranges.{arrays_in_range, entry_in_range, reduction_in_range}
-use Rattle.chare_syntax.specs.declared.tree.ArrayDecl.{ArrayDecl}
-use Rattle.chare_syntax.specs.declared.tree.MemberDecl.{MemberDecl}
-use Rattle.chare_syntax.specs.declared.tree.MemberDecl.TheVariants as members
+use Rattle.job_tree.specs.declared.tree.ArrayDecl.{ArrayDecl}
+use Rattle.job_tree.specs.declared.tree.MemberDecl.{MemberDecl}
+use Rattle.job_tree.specs.declared.tree.MemberDecl.TheVariants as members
 use Rattle.chare_checker.specs.declared.names.Meaning.{Meaning}
 use Rattle.chare_checker.specs.declared.names.Meaning.TheVariants as meanings
 use Rattle.chare_checker.specs.declared.notes.PortUse.{PortUse}

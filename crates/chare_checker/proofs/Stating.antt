@@ -23,18 +23,18 @@ use Rattle.chare_base.specs.Ports.{all_quiet, block_sends, counted, fed_by, is_q
 use Rattle.chare_base.specs.Ranges.{Test, all_in, indexed_at, part_scope, plain_at, reduced_in, send_in_range, sends_in_range, sent_from, stmt_in_range, value_in_range}
 use Rattle.chare_base.specs.Ranges as r
 use Rattle.chare_base.specs.Uses.{Cells, any_of, meet, range_of, reads, stmt_reads, stmt_reads_step, stmt_writes, stmt_writes_step}
-use Rattle.chare_syntax.specs.declared.token.Mark.TheVariants as marks
-use Rattle.chare_syntax.specs.declared.token.Span.{Span}
-use Rattle.chare_syntax.specs.declared.tree.Block.{Block, roll-Block}
-use Rattle.chare_syntax.specs.declared.tree.Expr.{Expr as ExprDecl}
-use Rattle.chare_syntax.specs.declared.tree.SignedNum.{SignedNum}
-use Rattle.chare_syntax.specs.declared.tree.StmtDecl.{StmtDecl, roll-StmtDecl}
-use Rattle.chare_syntax.specs.declared.tree.StmtDecl.TheOpen.{Block-F, StmtDecl-F}
-use Rattle.chare_syntax.specs.declared.tree.StmtDecl.TheFolds as tree
-use Rattle.chare_syntax.specs.declared.tree.Values.{Values}
-use Rattle.chare_syntax.specs.Spelling as s
-use Rattle.chare_syntax.specs.Spelling.{Spelling, joined}
-use Rattle.chare_syntax.specs.Word.{Word, level_of}
+use Rattle.job_tree.specs.declared.token.Mark.TheVariants as marks
+use Rattle.job_tree.specs.declared.token.Span.{Span}
+use Rattle.job_tree.specs.declared.tree.Block.{Block, roll-Block}
+use Rattle.job_tree.specs.declared.tree.Expr.{Expr as ExprDecl}
+use Rattle.job_tree.specs.declared.tree.SignedNum.{SignedNum}
+use Rattle.job_tree.specs.declared.tree.StmtDecl.{StmtDecl, roll-StmtDecl}
+use Rattle.job_tree.specs.declared.tree.StmtDecl.TheOpen.{Block-F, StmtDecl-F}
+use Rattle.job_tree.specs.declared.tree.StmtDecl.TheFolds as tree
+use Rattle.job_tree.specs.declared.tree.Values.{Values}
+use Rattle.job_tree.specs.Spelling as s
+use Rattle.job_tree.specs.Spelling.{Spelling, joined}
+use Rattle.job_tree.specs.Word.{Word, level_of}
 use Rattle.chare_checker.specs.declared.fault.CheckFault.TheVariants as faults
 use Rattle.chare_checker.specs.declared.names.Meaning.{Meaning}
 use Rattle.chare_checker.specs.declared.names.Meaning.TheVariants as meanings

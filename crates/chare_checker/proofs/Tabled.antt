@@ -9,10 +9,10 @@ use Rattle.chare_base.specs.declared.plan.Entry.{Entry}
 use Rattle.chare_base.specs.declared.plan.Reduction.{Reduction}
 use Rattle.chare_base.specs.declared.plan.State.{State}
 use Rattle.chare_base.specs.Ports.{entry_port, total_port}
-use Rattle.chare_syntax.specs.declared.tree.ArrayDecl.{ArrayDecl}
-use Rattle.chare_syntax.specs.declared.tree.MemberDecl.{MemberDecl}
-use Rattle.chare_syntax.specs.declared.tree.MemberDecl.TheVariants as members
-use Rattle.chare_syntax.specs.declared.tree.StateDecl.{StateDecl}
+use Rattle.job_tree.specs.declared.tree.ArrayDecl.{ArrayDecl}
+use Rattle.job_tree.specs.declared.tree.MemberDecl.{MemberDecl}
+use Rattle.job_tree.specs.declared.tree.MemberDecl.TheVariants as members
+use Rattle.job_tree.specs.declared.tree.StateDecl.{StateDecl}
 use Rattle.chare_checker.specs.declared.names.Meaning.{Meaning}
 use Rattle.chare_checker.specs.declared.names.Meaning.TheVariants as meanings
 use Rattle.chare_checker.specs.declared.tables.Counts.{Counts}

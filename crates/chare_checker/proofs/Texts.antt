@@ -1,6 +1,6 @@
 -- Plans and refusals of one text.
 use Rattle.std.proofs.Common.{◌≡◌, ℕ, List, ap, sym, ◌∙◌, Some, inl, inr}
-use Rattle.chare_syntax.proofs.Texts.{one_tree}
+use Rattle.job_tree.proofs.Texts.{one_tree}
 use Rattle.chare_checker.specs.declared.fault.CheckFault.{CheckFault}
 use Rattle.chare_checker.specs.Checked.{first_fault, plan_of}
 use Rattle.chare_checker.specs.Faults.{Found, nothing}

@@ -14,10 +14,10 @@ use Rattle.chare_base.specs.declared.plan.Step.{Step}
 use Rattle.chare_base.specs.Overlap.{array_apart, parts_apart}
 use Rattle.chare_base.specs.Ports.{array_sends_directly, step_sends_directly}
 use Rattle.chare_base.specs.Ranges.{array_in_range, arrays_in_range, start_in_range, step_in_range}
-use Rattle.chare_syntax.specs.declared.tree.ArrayDecl.{ArrayDecl}
-use Rattle.chare_syntax.specs.declared.tree.Job.{Job}
-use Rattle.chare_syntax.specs.declared.tree.MemberDecl.{MemberDecl}
-use Rattle.chare_syntax.specs.declared.tree.MemberDecl.TheVariants as members
+use Rattle.job_tree.specs.declared.tree.ArrayDecl.{ArrayDecl}
+use Rattle.job_tree.specs.declared.tree.Job.{Job}
+use Rattle.job_tree.specs.declared.tree.MemberDecl.{MemberDecl}
+use Rattle.job_tree.specs.declared.tree.MemberDecl.TheVariants as members
 use Rattle.chare_checker.specs.declared.fault.CheckFault.TheVariants.{NotOnce}
 use Rattle.chare_checker.specs.declared.notes.Notes.{Notes}
 use Rattle.chare_checker.specs.declared.notes.PortUse.{PortUse}

@@ -2,10 +2,10 @@
 use Rattle.std.specs.Prelude.{◌≡◌, ℕ, List, Some, ◌⊎◌}
 use Rattle.chare_base.specs.declared.plan.Plan.{Plan}
 use Rattle.chare_base.specs.Elements.{fields_of}
-use Rattle.chare_syntax.specs.declared.fault.ParseFault.{ParseFault}
-use Rattle.chare_syntax.specs.declared.fault.ParseFault.TheVariants as parses
-use Rattle.chare_syntax.specs.declared.tree.Job.{Job}
-use Rattle.chare_syntax.specs.Text.{ReadsAs, ReadsAsNone, TextFault}
+use Rattle.job_tree.specs.declared.fault.ParseFault.{ParseFault}
+use Rattle.job_tree.specs.declared.fault.ParseFault.TheVariants as parses
+use Rattle.job_tree.specs.declared.tree.Job.{Job}
+use Rattle.job_tree.specs.Text.{ReadsAs, ReadsAsNone, TextFault}
 use Rattle.chare_checker.specs.declared.fault.CheckFault.{CheckFault}
 use Rattle.chare_checker.specs.Checked.{first_fault, plan_of}
 use Rattle.chare_checker.specs.Faults.{nothing, place_of}

@@ -1,12 +1,12 @@
 -- Each answer names a state of an array, and perhaps a cell of one element.
 use Rattle.std.specs.Prelude.{ℕ, Bool, true, false, not, nat_lt, List, slice_get, Option, Some, None}
-use Rattle.chare_syntax.specs.declared.token.Num.{Num}
-use Rattle.chare_syntax.specs.declared.token.Span.{Span}
-use Rattle.chare_syntax.specs.declared.tree.AnswerDecl.{AnswerDecl}
-use Rattle.chare_syntax.specs.declared.tree.AnswerDecl.TheVariants.{Over, At}
-use Rattle.chare_syntax.specs.declared.tree.ArrayDecl.{ArrayDecl}
-use Rattle.chare_syntax.specs.declared.tree.Coordinates.{Coordinates}
-use Rattle.chare_syntax.specs.declared.tree.Job.{Job}
+use Rattle.job_tree.specs.declared.token.Num.{Num}
+use Rattle.job_tree.specs.declared.token.Span.{Span}
+use Rattle.job_tree.specs.declared.tree.AnswerDecl.{AnswerDecl}
+use Rattle.job_tree.specs.declared.tree.AnswerDecl.TheVariants.{Over, At}
+use Rattle.job_tree.specs.declared.tree.ArrayDecl.{ArrayDecl}
+use Rattle.job_tree.specs.declared.tree.Coordinates.{Coordinates}
+use Rattle.job_tree.specs.declared.tree.Job.{Job}
 use Rattle.chare_checker.specs.declared.fault.CheckFault.TheVariants.{Unknown, Kind, Bound}
 use Rattle.chare_checker.specs.declared.names.Meaning.{Meaning}
 use Rattle.chare_checker.specs.declared.names.Meaning.TheVariants as meanings

@@ -1,13 +1,13 @@
 -- Written numbers within their ranges. A number's place is that of its first digit.
 use Rattle.std.specs.Prelude.{ℕ, not, ◌&&◌, nat_le, List, [], ◌∷◌, Option, Some, None}
-use Rattle.chare_syntax.specs.declared.token.Num.{Num}
-use Rattle.chare_syntax.specs.declared.tree.ArrayDecl.{ArrayDecl}
-use Rattle.chare_syntax.specs.declared.tree.EntryDecl.{EntryDecl}
-use Rattle.chare_syntax.specs.declared.tree.Job.{Job}
-use Rattle.chare_syntax.specs.declared.tree.MemberDecl.{MemberDecl}
-use Rattle.chare_syntax.specs.declared.tree.MemberDecl.TheVariants.{Entry, Reduce}
-use Rattle.chare_syntax.specs.declared.tree.SignedNum.{SignedNum}
-use Rattle.chare_syntax.specs.declared.tree.StateDecl.{StateDecl}
+use Rattle.job_tree.specs.declared.token.Num.{Num}
+use Rattle.job_tree.specs.declared.tree.ArrayDecl.{ArrayDecl}
+use Rattle.job_tree.specs.declared.tree.EntryDecl.{EntryDecl}
+use Rattle.job_tree.specs.declared.tree.Job.{Job}
+use Rattle.job_tree.specs.declared.tree.MemberDecl.{MemberDecl}
+use Rattle.job_tree.specs.declared.tree.MemberDecl.TheVariants.{Entry, Reduce}
+use Rattle.job_tree.specs.declared.tree.SignedNum.{SignedNum}
+use Rattle.job_tree.specs.declared.tree.StateDecl.{StateDecl}
 use Rattle.chare_checker.specs.declared.fault.CheckFault.TheVariants.{Bound}
 use Rattle.chare_checker.specs.Faults.{Found, fault_if, first_of, sooner}
 

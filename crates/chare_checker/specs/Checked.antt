@@ -3,8 +3,8 @@ use Rattle.std.specs.Prelude.{◌≡◌, ℕ, Bool, IsTrue, List, [], length, Re
 use Rattle.chare_base.specs.declared.plan.Plan.{Plan}
 use Rattle.chare_base.specs.Elements.{Fields, fields_of}
 use Rattle.chare_base.specs.Rules.{rules_hold}
-use Rattle.chare_syntax.specs.declared.tree.Job.{Job}
-use Rattle.chare_syntax.specs.Accepted.{is_filled, is_shallow, names_lie}
+use Rattle.job_tree.specs.declared.tree.Job.{Job}
+use Rattle.job_tree.specs.Accepted.{is_filled, is_shallow, names_lie}
 use Rattle.chare_checker.specs.declared.fault.CheckFault.{CheckFault}
 use Rattle.chare_checker.specs.declared.fault.CheckFault.TheVariants as faults
 use Rattle.chare_checker.specs.declared.notes.Notes.{Notes}

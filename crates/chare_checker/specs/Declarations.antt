@@ -1,16 +1,16 @@
 -- What declarations themselves break: names declared twice or too long, and entries whose source isn't there or has
 -- another shape.
 use Rattle.std.specs.Prelude.{ℕ, suc, Bool, true, false, not, ◌||◌, ◌==◌, List, [], ◌∷◌, Option, Some, None, is_none, slice_get}
-use Rattle.chare_syntax.specs.declared.token.Num.{Num}
-use Rattle.chare_syntax.specs.declared.token.Span.{Span}
-use Rattle.chare_syntax.specs.declared.tree.ArrayDecl.{ArrayDecl}
-use Rattle.chare_syntax.specs.declared.tree.Coordinates.{Coordinates}
-use Rattle.chare_syntax.specs.declared.tree.EntryDecl.{EntryDecl}
-use Rattle.chare_syntax.specs.declared.tree.Job.{Job}
-use Rattle.chare_syntax.specs.declared.tree.MemberDecl.{MemberDecl}
-use Rattle.chare_syntax.specs.declared.tree.MemberDecl.TheVariants as members
-use Rattle.chare_syntax.specs.declared.tree.SignedNum.{SignedNum}
-use Rattle.chare_syntax.specs.declared.tree.StateDecl.{StateDecl}
+use Rattle.job_tree.specs.declared.token.Num.{Num}
+use Rattle.job_tree.specs.declared.token.Span.{Span}
+use Rattle.job_tree.specs.declared.tree.ArrayDecl.{ArrayDecl}
+use Rattle.job_tree.specs.declared.tree.Coordinates.{Coordinates}
+use Rattle.job_tree.specs.declared.tree.EntryDecl.{EntryDecl}
+use Rattle.job_tree.specs.declared.tree.Job.{Job}
+use Rattle.job_tree.specs.declared.tree.MemberDecl.{MemberDecl}
+use Rattle.job_tree.specs.declared.tree.MemberDecl.TheVariants as members
+use Rattle.job_tree.specs.declared.tree.SignedNum.{SignedNum}
+use Rattle.job_tree.specs.declared.tree.StateDecl.{StateDecl}
 use Rattle.chare_checker.specs.declared.fault.CheckFault.TheVariants.{Shape, Twice, Unknown}
 use Rattle.chare_checker.specs.declared.names.Meaning.{Meaning}
 use Rattle.chare_checker.specs.declared.names.Meaning.TheVariants.{Array, Entry, Reduction, State}

@@ -1,19 +1,19 @@
 -- What the names and words of an expression note.
 use Rattle.std.specs.Prelude.{ℕ, Bool, true, false, not, ◌||◌, is_some, List, Option, Some}
-use Rattle.chare_syntax.specs.declared.token.Span.{Span}
-use Rattle.chare_syntax.specs.declared.tree.Here.{Here}
-use Rattle.chare_syntax.specs.declared.tree.Here.TheVariants as heres
-use Rattle.chare_syntax.specs.declared.tree.Conj.{Conj}
-use Rattle.chare_syntax.specs.declared.tree.Expr.{Expr}
-use Rattle.chare_syntax.specs.declared.tree.Product.{Product}
-use Rattle.chare_syntax.specs.declared.tree.ProductTerm.{ProductTerm}
-use Rattle.chare_syntax.specs.declared.tree.Sum.{Sum}
-use Rattle.chare_syntax.specs.declared.tree.SumTerm.{SumTerm}
-use Rattle.chare_syntax.specs.declared.tree.Atom.{Atom}
-use Rattle.chare_syntax.specs.declared.tree.Test.{Test}
-use Rattle.chare_syntax.specs.declared.tree.Unary.{Unary}
-use Rattle.chare_syntax.specs.declared.tree.Atom.TheOpen.{Atom-F, Test-F, Unary-F, Conj-F, Expr-F, Product-F, ProductTerm-F, Sum-F, SumTerm-F}
-use Rattle.chare_syntax.specs.declared.tree.Atom.TheFolds.{fold-Atom, fold-Test, fold-Unary, fold-Conj, fold-Expr, fold-Product, fold-ProductTerm, fold-Sum, fold-SumTerm}
+use Rattle.job_tree.specs.declared.token.Span.{Span}
+use Rattle.job_tree.specs.declared.tree.Here.{Here}
+use Rattle.job_tree.specs.declared.tree.Here.TheVariants as heres
+use Rattle.job_tree.specs.declared.tree.Conj.{Conj}
+use Rattle.job_tree.specs.declared.tree.Expr.{Expr}
+use Rattle.job_tree.specs.declared.tree.Product.{Product}
+use Rattle.job_tree.specs.declared.tree.ProductTerm.{ProductTerm}
+use Rattle.job_tree.specs.declared.tree.Sum.{Sum}
+use Rattle.job_tree.specs.declared.tree.SumTerm.{SumTerm}
+use Rattle.job_tree.specs.declared.tree.Atom.{Atom}
+use Rattle.job_tree.specs.declared.tree.Test.{Test}
+use Rattle.job_tree.specs.declared.tree.Unary.{Unary}
+use Rattle.job_tree.specs.declared.tree.Atom.TheOpen.{Atom-F, Test-F, Unary-F, Conj-F, Expr-F, Product-F, ProductTerm-F, Sum-F, SumTerm-F}
+use Rattle.job_tree.specs.declared.tree.Atom.TheFolds.{fold-Atom, fold-Test, fold-Unary, fold-Conj, fold-Expr, fold-Product, fold-ProductTerm, fold-Sum, fold-SumTerm}
 use Rattle.chare_checker.specs.declared.walk.Site.{Site}
 use Rattle.chare_checker.specs.declared.walk.Site.TheVariants as sites
 use Rattle.chare_checker.specs.declared.fault.CheckFault.TheVariants as faults

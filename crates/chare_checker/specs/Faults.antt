@@ -1,6 +1,6 @@
 -- The faults of a tree, and which of two is named.
 use Rattle.std.specs.Prelude.{ℕ, Bool, ◌||◌, ◌&&◌, ◌==◌, nat_lt, if◌then◌else◌, List, [], ◌∷◌, Option, Some, None}
-use Rattle.chare_syntax.specs.declared.token.Span.{Span}
+use Rattle.job_tree.specs.declared.token.Span.{Span}
 use Rattle.chare_checker.specs.declared.fault.CheckFault.{CheckFault}
 use Rattle.chare_checker.specs.declared.fault.CheckFault.TheVariants.{Twice, Unknown, Kind, Shape, NotOnce, TooEarly, Overlap, Bound, Limit, Memory}
 use Rattle.chare_checker.specs.declared.fault.LimitKind.TheVariants.{Name}

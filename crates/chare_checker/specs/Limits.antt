@@ -1,18 +1,18 @@
 -- Counts of a job, each at most so great. A count is refused at each place where it exceeds, with the count up to and with
 -- that place. Counts stop at the greatest number of 64 bits.
 use Rattle.std.specs.Prelude.{ℕ, suc, ◌+◌, ◌*◌, nat_lt, List, [], ◌∷◌, Option, Some, None}
-use Rattle.chare_syntax.specs.declared.token.Num.{Num}
-use Rattle.chare_syntax.specs.declared.tree.AnswerDecl.{AnswerDecl}
-use Rattle.chare_syntax.specs.declared.tree.AnswerDecl.TheVariants as answers
-use Rattle.chare_syntax.specs.declared.tree.ArrayDecl.{ArrayDecl}
-use Rattle.chare_syntax.specs.declared.tree.Coordinates.{Coordinates}
-use Rattle.chare_syntax.specs.declared.tree.Job.{Job}
-use Rattle.chare_syntax.specs.declared.tree.MemberDecl.{MemberDecl}
-use Rattle.chare_syntax.specs.declared.tree.PartDecl.{PartDecl}
-use Rattle.chare_syntax.specs.declared.tree.StateDecl.{StateDecl}
-use Rattle.chare_syntax.specs.declared.tree.StepBody.{StepBody}
-use Rattle.chare_syntax.specs.declared.tree.StepBody.TheVariants as bodies
-use Rattle.chare_syntax.specs.declared.tree.StepDecl.{StepDecl}
+use Rattle.job_tree.specs.declared.token.Num.{Num}
+use Rattle.job_tree.specs.declared.tree.AnswerDecl.{AnswerDecl}
+use Rattle.job_tree.specs.declared.tree.AnswerDecl.TheVariants as answers
+use Rattle.job_tree.specs.declared.tree.ArrayDecl.{ArrayDecl}
+use Rattle.job_tree.specs.declared.tree.Coordinates.{Coordinates}
+use Rattle.job_tree.specs.declared.tree.Job.{Job}
+use Rattle.job_tree.specs.declared.tree.MemberDecl.{MemberDecl}
+use Rattle.job_tree.specs.declared.tree.PartDecl.{PartDecl}
+use Rattle.job_tree.specs.declared.tree.StateDecl.{StateDecl}
+use Rattle.job_tree.specs.declared.tree.StepBody.{StepBody}
+use Rattle.job_tree.specs.declared.tree.StepBody.TheVariants as bodies
+use Rattle.job_tree.specs.declared.tree.StepDecl.{StepDecl}
 use Rattle.chare_checker.specs.declared.fault.CheckFault.TheVariants.{Limit}
 use Rattle.chare_checker.specs.declared.fault.LimitKind.{LimitKind}
 use Rattle.chare_checker.specs.declared.fault.LimitKind.TheVariants.{Arrays, States, Entries, Steps, Parts, Answers, Elements, Cells, AllCells, Cost}

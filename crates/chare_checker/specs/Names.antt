@@ -3,7 +3,7 @@ use Rattle.std.specs.Prelude.{ℕ, Bool, List, [], ◌∷◌, ◌++◌, map, tak
 use Rattle.std.specs.Str.{bytes_eq}
 use Rattle.std.specs.declared.vec.Vec.{Vec}
 use Rattle.std.specs.declared.alloc.Global.{Global}
-use Rattle.chare_syntax.specs.declared.token.Span.{Span}
+use Rattle.job_tree.specs.declared.token.Span.{Span}
 use Rattle.chare_checker.specs.declared.names.Meaning.{Meaning}
 
 abbrev pub bytes_at : List ℕ → Span → List ℕ

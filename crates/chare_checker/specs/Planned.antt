@@ -1,7 +1,7 @@
 -- The plan of a job's tree, which is total: it means something also where the tree breaks a rule.
 use Rattle.std.specs.Prelude.{ℕ, List, map}
 use Rattle.chare_base.specs.Elements.{Fields}
-use Rattle.chare_syntax.specs.declared.tree.Job.{Job}
+use Rattle.job_tree.specs.declared.tree.Job.{Job}
 use Rattle.chare_checker.specs.declared.planning.PlannedJob.{PlannedJob}
 use Rattle.chare_checker.specs.declared.tables.JobNames.{JobNames}
 use Rattle.chare_checker.specs.Names.{bytes_at}

@@ -5,10 +5,10 @@ use Rattle.chare_base.specs.declared.plan.Answer.TheVariants.{Over, At}
 use Rattle.chare_base.specs.declared.plan.Array.{Array}
 use Rattle.chare_base.specs.declared.plan.ElementId.{ElementId}
 use Rattle.chare_base.specs.declared.range.Range.{Range}
-use Rattle.chare_syntax.specs.declared.token.Num.{Num}
-use Rattle.chare_syntax.specs.declared.tree.AnswerDecl.{AnswerDecl}
-use Rattle.chare_syntax.specs.declared.tree.AnswerDecl.TheVariants as answers
-use Rattle.chare_syntax.specs.declared.tree.Coordinates.{Coordinates}
+use Rattle.job_tree.specs.declared.token.Num.{Num}
+use Rattle.job_tree.specs.declared.tree.AnswerDecl.{AnswerDecl}
+use Rattle.job_tree.specs.declared.tree.AnswerDecl.TheVariants as answers
+use Rattle.job_tree.specs.declared.tree.Coordinates.{Coordinates}
 use Rattle.chare_checker.specs.declared.tables.JobNames.{JobNames}
 use Rattle.chare_checker.specs.Tables.{array_number}
 use Rattle.chare_checker.specs.PlannedMembers.{how_planned}

@@ -11,29 +11,29 @@ use Rattle.chare_base.specs.declared.expression.Expr.TheVariants as exprs
 use Rattle.chare_base.specs.declared.expression.Factor.{Factor, roll-Factor}
 use Rattle.chare_base.specs.declared.expression.Term.{Term, roll-Term}
 use Rattle.chare_base.specs.declared.range.Range.{Range}
-use Rattle.chare_syntax.specs.declared.token.Span.{Span}
-use Rattle.chare_syntax.specs.declared.tree.AddOp.{AddOp as AddDecl}
-use Rattle.chare_syntax.specs.declared.tree.AddOp.TheVariants as tree_adds
-use Rattle.chare_syntax.specs.declared.tree.CompareOp.{CompareOp as CompareDecl}
-use Rattle.chare_syntax.specs.declared.tree.CompareOp.TheVariants as tree_compares
-use Rattle.chare_syntax.specs.declared.tree.MulOp.{MulOp as MulDecl}
-use Rattle.chare_syntax.specs.declared.tree.MulOp.TheVariants as tree_muls
-use Rattle.chare_syntax.specs.declared.tree.Here.{Here}
-use Rattle.chare_syntax.specs.declared.tree.Here.TheVariants as heres
-use Rattle.chare_syntax.specs.declared.tree.Choice.{Choice}
-use Rattle.chare_syntax.specs.declared.tree.Choice.TheVariants as choices
-use Rattle.chare_syntax.specs.declared.tree.Atom.{Atom}
-use Rattle.chare_syntax.specs.declared.tree.Conj.{Conj}
-use Rattle.chare_syntax.specs.declared.tree.Expr.{Expr as ExprDecl}
-use Rattle.chare_syntax.specs.declared.tree.Product.{Product}
-use Rattle.chare_syntax.specs.declared.tree.ProductTerm.{ProductTerm}
-use Rattle.chare_syntax.specs.declared.tree.Sum.{Sum}
-use Rattle.chare_syntax.specs.declared.tree.SumTerm.{SumTerm}
-use Rattle.chare_syntax.specs.declared.tree.Test.{Test}
-use Rattle.chare_syntax.specs.declared.tree.Unary.{Unary}
-use Rattle.chare_syntax.specs.declared.tree.Values.{Values}
-use Rattle.chare_syntax.specs.declared.tree.Atom.TheOpen.{Atom-F, Test-F, Unary-F, Conj-F, Expr-F, Product-F, ProductTerm-F, Sum-F, SumTerm-F}
-use Rattle.chare_syntax.specs.declared.tree.Atom.TheFolds.{fold-Atom, fold-Test, fold-Unary, fold-Conj, fold-Expr, fold-Product, fold-ProductTerm, fold-Sum, fold-SumTerm}
+use Rattle.job_tree.specs.declared.token.Span.{Span}
+use Rattle.job_tree.specs.declared.tree.AddOp.{AddOp as AddDecl}
+use Rattle.job_tree.specs.declared.tree.AddOp.TheVariants as tree_adds
+use Rattle.job_tree.specs.declared.tree.CompareOp.{CompareOp as CompareDecl}
+use Rattle.job_tree.specs.declared.tree.CompareOp.TheVariants as tree_compares
+use Rattle.job_tree.specs.declared.tree.MulOp.{MulOp as MulDecl}
+use Rattle.job_tree.specs.declared.tree.MulOp.TheVariants as tree_muls
+use Rattle.job_tree.specs.declared.tree.Here.{Here}
+use Rattle.job_tree.specs.declared.tree.Here.TheVariants as heres
+use Rattle.job_tree.specs.declared.tree.Choice.{Choice}
+use Rattle.job_tree.specs.declared.tree.Choice.TheVariants as choices
+use Rattle.job_tree.specs.declared.tree.Atom.{Atom}
+use Rattle.job_tree.specs.declared.tree.Conj.{Conj}
+use Rattle.job_tree.specs.declared.tree.Expr.{Expr as ExprDecl}
+use Rattle.job_tree.specs.declared.tree.Product.{Product}
+use Rattle.job_tree.specs.declared.tree.ProductTerm.{ProductTerm}
+use Rattle.job_tree.specs.declared.tree.Sum.{Sum}
+use Rattle.job_tree.specs.declared.tree.SumTerm.{SumTerm}
+use Rattle.job_tree.specs.declared.tree.Test.{Test}
+use Rattle.job_tree.specs.declared.tree.Unary.{Unary}
+use Rattle.job_tree.specs.declared.tree.Values.{Values}
+use Rattle.job_tree.specs.declared.tree.Atom.TheOpen.{Atom-F, Test-F, Unary-F, Conj-F, Expr-F, Product-F, ProductTerm-F, Sum-F, SumTerm-F}
+use Rattle.job_tree.specs.declared.tree.Atom.TheFolds.{fold-Atom, fold-Test, fold-Unary, fold-Conj, fold-Expr, fold-Product, fold-ProductTerm, fold-Sum, fold-SumTerm}
 use Rattle.chare_checker.specs.Names.{Known, local_named}
 use Rattle.chare_checker.specs.PlannedNames.{state_range, range_or_none}
 use Rattle.chare_checker.specs.PlannedNumbers.{narrow8, narrow63}

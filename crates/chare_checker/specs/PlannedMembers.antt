@@ -6,16 +6,16 @@ use Rattle.chare_base.specs.declared.plan.Entry.{Entry}
 use Rattle.chare_base.specs.declared.plan.How.{How}
 use Rattle.chare_base.specs.declared.plan.How.TheVariants as hows
 use Rattle.chare_base.specs.declared.plan.Reduction.{Reduction}
-use Rattle.chare_syntax.specs.declared.tree.ArrayDecl.{ArrayDecl}
-use Rattle.chare_syntax.specs.declared.tree.EdgeDecl.{EdgeDecl}
-use Rattle.chare_syntax.specs.declared.tree.EdgeDecl.TheVariants as edges
-use Rattle.chare_syntax.specs.declared.tree.EntryDecl.{EntryDecl}
-use Rattle.chare_syntax.specs.declared.tree.How.{How as HowDecl}
-use Rattle.chare_syntax.specs.declared.tree.How.TheVariants as tree_hows
-use Rattle.chare_syntax.specs.declared.tree.MemberDecl.{MemberDecl}
-use Rattle.chare_syntax.specs.declared.tree.MemberDecl.TheVariants as members
-use Rattle.chare_syntax.specs.declared.tree.ReduceDecl.{ReduceDecl}
-use Rattle.chare_syntax.specs.declared.tree.SignedNum.{SignedNum}
+use Rattle.job_tree.specs.declared.tree.ArrayDecl.{ArrayDecl}
+use Rattle.job_tree.specs.declared.tree.EdgeDecl.{EdgeDecl}
+use Rattle.job_tree.specs.declared.tree.EdgeDecl.TheVariants as edges
+use Rattle.job_tree.specs.declared.tree.EntryDecl.{EntryDecl}
+use Rattle.job_tree.specs.declared.tree.How.{How as HowDecl}
+use Rattle.job_tree.specs.declared.tree.How.TheVariants as tree_hows
+use Rattle.job_tree.specs.declared.tree.MemberDecl.{MemberDecl}
+use Rattle.job_tree.specs.declared.tree.MemberDecl.TheVariants as members
+use Rattle.job_tree.specs.declared.tree.ReduceDecl.{ReduceDecl}
+use Rattle.job_tree.specs.declared.tree.SignedNum.{SignedNum}
 use Rattle.chare_checker.specs.Names.{Known, bytes_at}
 use Rattle.chare_checker.specs.Tables.{array_number, values_written}
 use Rattle.chare_checker.specs.PlannedNumbers.{narrow8, narrow16, number16, signed8, signed64}

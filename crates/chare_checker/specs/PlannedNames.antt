@@ -5,7 +5,7 @@ use Rattle.chare_base.specs.declared.message.ReductionId.{ReductionId}
 use Rattle.chare_base.specs.declared.message.Port.{Port}
 use Rattle.chare_base.specs.declared.message.Port.TheVariants as ports
 use Rattle.chare_base.specs.declared.range.Range.{Range}
-use Rattle.chare_syntax.specs.declared.token.Span.{Span}
+use Rattle.job_tree.specs.declared.token.Span.{Span}
 use Rattle.chare_checker.specs.declared.names.Meaning.{Meaning}
 use Rattle.chare_checker.specs.declared.names.Meaning.TheVariants as meanings
 use Rattle.chare_checker.specs.declared.tables.JobNames.{JobNames}

@@ -1,6 +1,6 @@
 -- Numbers of a tree as a plan keeps them: each stops at the greatest that its place holds.
 use Rattle.std.specs.Prelude.{ℕ, min, ℤ, pos, ◌-ℤ◌, Option, Some, None}
-use Rattle.chare_syntax.specs.declared.tree.SignedNum.{SignedNum}
+use Rattle.job_tree.specs.declared.tree.SignedNum.{SignedNum}
 
 abbrev pub narrow8 : ℕ → ℕ
 narrow8 n = min n 255

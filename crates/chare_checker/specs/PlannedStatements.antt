@@ -4,11 +4,11 @@ use Rattle.chare_base.specs.declared.expression.Expr.{Expr}
 use Rattle.chare_base.specs.declared.plan.Stmt.{Stmt}
 use Rattle.chare_base.specs.declared.plan.Stmt.TheVariants as stmts
 use Rattle.chare_base.specs.declared.range.Range.{Range}
-use Rattle.chare_syntax.specs.declared.token.Span.{Span}
-use Rattle.chare_syntax.specs.declared.tree.Block.{Block}
-use Rattle.chare_syntax.specs.declared.tree.StmtDecl.{StmtDecl}
-use Rattle.chare_syntax.specs.declared.tree.StmtDecl.TheOpen.{Block-F, StmtDecl-F}
-use Rattle.chare_syntax.specs.declared.tree.StmtDecl.TheFolds.{fold-Block, fold-StmtDecl}
+use Rattle.job_tree.specs.declared.token.Span.{Span}
+use Rattle.job_tree.specs.declared.tree.Block.{Block}
+use Rattle.job_tree.specs.declared.tree.StmtDecl.{StmtDecl}
+use Rattle.job_tree.specs.declared.tree.StmtDecl.TheOpen.{Block-F, StmtDecl-F}
+use Rattle.job_tree.specs.declared.tree.StmtDecl.TheFolds.{fold-Block, fold-StmtDecl}
 use Rattle.chare_checker.specs.declared.tables.JobNames.{JobNames}
 use Rattle.chare_checker.specs.Names.{Known, bytes_at, lookup}
 use Rattle.chare_checker.specs.PlannedExpressions.{place_planned, value_planned, values_planned}

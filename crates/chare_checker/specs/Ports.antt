@@ -1,10 +1,10 @@
 -- Each port, an entry or a reduction, is sent to once, at top level, and received from once, in a later step.
 use Rattle.std.specs.Prelude.{ℕ, suc, not, ◌||◌, ◌==◌, nat_lt, List, [], ◌∷◌, filter, slice_get, Option, Some, None, is_none}
 use Rattle.std.specs.Option.{option_or}
-use Rattle.chare_syntax.specs.declared.tree.ArrayDecl.{ArrayDecl}
-use Rattle.chare_syntax.specs.declared.tree.Job.{Job}
-use Rattle.chare_syntax.specs.declared.tree.MemberDecl.{MemberDecl}
-use Rattle.chare_syntax.specs.declared.tree.MemberDecl.TheVariants.{Entry, Reduce}
+use Rattle.job_tree.specs.declared.tree.ArrayDecl.{ArrayDecl}
+use Rattle.job_tree.specs.declared.tree.Job.{Job}
+use Rattle.job_tree.specs.declared.tree.MemberDecl.{MemberDecl}
+use Rattle.job_tree.specs.declared.tree.MemberDecl.TheVariants.{Entry, Reduce}
 use Rattle.chare_checker.specs.declared.fault.CheckFault.TheVariants.{NotOnce, TooEarly}
 use Rattle.chare_checker.specs.declared.notes.PortUse.{PortUse}
 use Rattle.chare_checker.specs.declared.tables.Counts.{Counts}

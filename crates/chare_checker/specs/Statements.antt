@@ -1,12 +1,12 @@
 -- What the statements of a part note.
 use Rattle.std.specs.Prelude.{ℕ, suc, Bool, true, false, not, ◌||◌, ◌==◌, is_some, List, [], ◌∷◌, ◌++◌, map, length, Option, Some, None, slice_get}
-use Rattle.chare_syntax.specs.declared.token.Span.{Span}
-use Rattle.chare_syntax.specs.declared.tree.Block.{Block}
-use Rattle.chare_syntax.specs.declared.tree.Expr.{Expr}
-use Rattle.chare_syntax.specs.declared.tree.StmtDecl.{StmtDecl}
-use Rattle.chare_syntax.specs.declared.tree.StmtDecl.TheOpen.{Block-F, StmtDecl-F}
-use Rattle.chare_syntax.specs.declared.tree.StmtDecl.TheFolds.{fold-Block, fold-StmtDecl}
-use Rattle.chare_syntax.specs.declared.tree.Values.{Values}
+use Rattle.job_tree.specs.declared.token.Span.{Span}
+use Rattle.job_tree.specs.declared.tree.Block.{Block}
+use Rattle.job_tree.specs.declared.tree.Expr.{Expr}
+use Rattle.job_tree.specs.declared.tree.StmtDecl.{StmtDecl}
+use Rattle.job_tree.specs.declared.tree.StmtDecl.TheOpen.{Block-F, StmtDecl-F}
+use Rattle.job_tree.specs.declared.tree.StmtDecl.TheFolds.{fold-Block, fold-StmtDecl}
+use Rattle.job_tree.specs.declared.tree.Values.{Values}
 use Rattle.chare_checker.specs.declared.walk.Site.TheVariants as sites
 use Rattle.chare_checker.specs.declared.fault.CheckFault.TheVariants as faults
 use Rattle.chare_checker.specs.declared.names.Meaning.{Meaning}

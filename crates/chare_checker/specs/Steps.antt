@@ -1,15 +1,15 @@
 -- What the initial values and the steps of a job note.
 use Rattle.std.specs.Prelude.{ℕ, suc, false, not, ◌||◌, ◌==◌, is_some, List, [], ◌∷◌, length, Option, Some}
-use Rattle.chare_syntax.specs.declared.token.Span.{Span}
-use Rattle.chare_syntax.specs.declared.tree.ArrayDecl.{ArrayDecl}
-use Rattle.chare_syntax.specs.declared.tree.Block.{Block}
-use Rattle.chare_syntax.specs.declared.tree.Job.{Job}
-use Rattle.chare_syntax.specs.declared.tree.Names.{Names}
-use Rattle.chare_syntax.specs.declared.tree.PartDecl.{PartDecl}
-use Rattle.chare_syntax.specs.declared.tree.StateDecl.{StateDecl}
-use Rattle.chare_syntax.specs.declared.tree.StepBody.{StepBody}
-use Rattle.chare_syntax.specs.declared.tree.StepBody.TheVariants as bodies
-use Rattle.chare_syntax.specs.declared.tree.StepDecl.{StepDecl}
+use Rattle.job_tree.specs.declared.token.Span.{Span}
+use Rattle.job_tree.specs.declared.tree.ArrayDecl.{ArrayDecl}
+use Rattle.job_tree.specs.declared.tree.Block.{Block}
+use Rattle.job_tree.specs.declared.tree.Job.{Job}
+use Rattle.job_tree.specs.declared.tree.Names.{Names}
+use Rattle.job_tree.specs.declared.tree.PartDecl.{PartDecl}
+use Rattle.job_tree.specs.declared.tree.StateDecl.{StateDecl}
+use Rattle.job_tree.specs.declared.tree.StepBody.{StepBody}
+use Rattle.job_tree.specs.declared.tree.StepBody.TheVariants as bodies
+use Rattle.job_tree.specs.declared.tree.StepDecl.{StepDecl}
 use Rattle.chare_checker.specs.declared.walk.Site.TheVariants as sites
 use Rattle.chare_checker.specs.declared.fault.CheckFault.TheVariants as faults
 use Rattle.chare_checker.specs.declared.names.Meaning.{Meaning}

@@ -1,12 +1,12 @@
 -- The names that a job declares.
 use Rattle.std.specs.Prelude.{ℕ, suc, ◌+◌, min, List, [], ◌∷◌, Option, Some, None, is_none}
-use Rattle.chare_syntax.specs.declared.token.Num.{Num}
-use Rattle.chare_syntax.specs.declared.token.Span.{Span}
-use Rattle.chare_syntax.specs.declared.tree.ArrayDecl.{ArrayDecl}
-use Rattle.chare_syntax.specs.declared.tree.Job.{Job}
-use Rattle.chare_syntax.specs.declared.tree.MemberDecl.{MemberDecl}
-use Rattle.chare_syntax.specs.declared.tree.MemberDecl.TheVariants.{Entry, Reduce}
-use Rattle.chare_syntax.specs.declared.tree.StateDecl.{StateDecl}
+use Rattle.job_tree.specs.declared.token.Num.{Num}
+use Rattle.job_tree.specs.declared.token.Span.{Span}
+use Rattle.job_tree.specs.declared.tree.ArrayDecl.{ArrayDecl}
+use Rattle.job_tree.specs.declared.tree.Job.{Job}
+use Rattle.job_tree.specs.declared.tree.MemberDecl.{MemberDecl}
+use Rattle.job_tree.specs.declared.tree.MemberDecl.TheVariants.{Entry, Reduce}
+use Rattle.job_tree.specs.declared.tree.StateDecl.{StateDecl}
 use Rattle.chare_checker.specs.declared.names.Meaning.{Meaning}
 use Rattle.chare_checker.specs.declared.names.Meaning.TheVariants as meanings
 use Rattle.chare_checker.specs.declared.tables.Counts.{Counts}

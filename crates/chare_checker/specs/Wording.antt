@@ -1,8 +1,8 @@
 -- How a fault is told: its line and its column in the text, and a word.
 use Rattle.std.specs.Prelude.{ℕ, suc, Bool, not, ◌==◌, nat_le, if◌then◌else◌, List, [], length, take, reverse, codes}
 use Rattle.std.specs.List.{count_by, take_while}
-use Rattle.chare_syntax.specs.declared.fault.ParseFault.{ParseFault}
-use Rattle.chare_syntax.specs.declared.fault.ParseFault.TheVariants as parses
+use Rattle.job_tree.specs.declared.fault.ParseFault.{ParseFault}
+use Rattle.job_tree.specs.declared.fault.ParseFault.TheVariants as parses
 use Rattle.chare_checker.specs.declared.fault.CheckFault.{CheckFault}
 use Rattle.chare_checker.specs.declared.fault.CheckFault.TheVariants as checks
 use Rattle.chare_checker.specs.declared.wording.Wording.{Wording}

@@ -7,8 +7,8 @@ ghost use Rattle.chare_checker.specs.Tables.{array_number};
 use crate::fault::{CheckFault, fault_if, name_fault, sooner};
 use crate::names::{Meaning, bytes_at};
 use crate::tables::{JobNames, array_number};
-use chare_syntax::token::{Num, Span};
-use chare_syntax::tree::{AnswerDecl, ArrayDecl, Coordinates, Job};
+use job_tree::token::{Num, Span};
+use job_tree::tree::{AnswerDecl, ArrayDecl, Coordinates, Job};
 
 /// Of what was found and what is wrong with the answers of a job, the fault that is named.
 #[tactic(auto, unfolding(crate::specs::Answers::answers_found))]

@@ -6,8 +6,8 @@ ghost use Rattle.chare_checker.specs.Faults.{first_of};
 
 use crate::fault::{CheckFault, fault_if, sooner};
 use chare_base::limits;
-use chare_syntax::token::Num;
-use chare_syntax::tree::{ArrayDecl, EntryDecl, Job, MemberDecl, SignedNum, StateDecl};
+use job_tree::token::Num;
+use job_tree::tree::{ArrayDecl, EntryDecl, Job, MemberDecl, SignedNum, StateDecl};
 
 /// Of what was found and the written numbers of a job that are outside their ranges, the fault that is named. Those
 /// of its answers are looked at with the answers.

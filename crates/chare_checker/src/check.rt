@@ -17,7 +17,7 @@ use crate::steps::walk_job;
 use crate::tables::JobNames;
 use chare_base::memory::Memory;
 use chare_base::plan::Plan;
-use chare_syntax::tree::{Ast, Job};
+use job_tree::tree::{Ast, Job};
 use std::alloc::Global;
 
 /// The plan of a tree that breaks no rule, or the first rule that it breaks: of the first class that has one, at

@@ -3,7 +3,7 @@
 ghost use Rattle.std.specs.Prelude.{◌≡◌, ◌-ℤ◌};
 ghost use Rattle.chare_checker.specs.Costs.{block_costs, body_cost, numbers_below, parts_cost, signed_value, step_cost, stmt_cost, sum_from};
 
-use chare_syntax::tree::{Block, PartDecl, SignedNum, StepBody, StepDecl, StmtDecl};
+use job_tree::tree::{Block, PartDecl, SignedNum, StepBody, StepDecl, StmtDecl};
 
 /// How many statements a step runs at most, where each loop's turns are counted and each test counts too.
 pub(crate) fn step_cost(step: &StepDecl) -> u64

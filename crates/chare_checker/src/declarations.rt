@@ -8,8 +8,8 @@ ghost use Rattle.chare_checker.specs.Tables.{no_counts};
 use crate::fault::{CheckFault, fault_if, name_fault, sooner};
 use crate::names::{Meaning, bytes_at};
 use crate::tables::{Counts, JobNames, array_number, counts_after, counts_with};
-use chare_syntax::token::{Num, Span};
-use chare_syntax::tree::{
+use job_tree::token::{Num, Span};
+use job_tree::tree::{
     ArrayDecl, Coordinates, EntryDecl, Job, MemberDecl, SignedNum, StateDecl,
 };
 

@@ -9,8 +9,8 @@ use crate::names::Meaning;
 use crate::notes::{Notes, StateUse};
 use crate::walk::{Scope, Site};
 use chare_base::memory::Memory;
-use chare_syntax::token::Span;
-use chare_syntax::tree::{Atom, Conj, Expr, Here, Product, ProductTerm, Sum, SumTerm, Test, Unary};
+use job_tree::token::Span;
+use job_tree::tree::{Atom, Conj, Expr, Here, Product, ProductTerm, Sum, SumTerm, Test, Unary};
 
 /// Walks over an expression, whose names are those of an array's table, of a part's parameters and of the loops
 /// around it.

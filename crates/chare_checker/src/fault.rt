@@ -5,7 +5,7 @@ ghost use Rattle.chare_checker.specs.Faults.{class_of, comes_before, fault_if, n
 ghost use Rattle.chare_checker.specs.declared.fault.CheckFault.TheVariants as faults;
 
 use chare_base::{limits, memory};
-use chare_syntax::token::Span;
+use job_tree::token::Span;
 use std::alloc::{AllocError, AllocFailed};
 use thiserror::Error;
 

@@ -9,7 +9,7 @@ use crate::fault::{CheckFault, LimitKind, fault_if, sooner};
 use crate::ports::declared_at;
 use crate::tables::cells_written;
 use chare_base::limits;
-use chare_syntax::tree::{
+use job_tree::tree::{
     AnswerDecl, ArrayDecl, Coordinates, Job, MemberDecl, PartDecl, StateDecl, StepBody, StepDecl,
 };
 

@@ -4,7 +4,7 @@ ghost use Rattle.std.specs.Prelude.{◌≡◌, [], OnOk, OnErr};
 ghost use Rattle.chare_checker.specs.Names.{bytes_at, declare, local_named, lookup, same_name};
 
 use chare_base::memory::Memory;
-use chare_syntax::token::Span;
+use job_tree::token::Span;
 use indexmap::IndexMap;
 use std::alloc::Global;
 use std::marker::Model;

@@ -11,7 +11,7 @@ use crate::tables::JobNames;
 use chare_base::bytes::Name;
 use chare_base::memory::Memory;
 use chare_base::plan::{Answer, Array, Entry, Reduction};
-use chare_syntax::tree::Job;
+use job_tree::tree::Job;
 use sqlite_items::Items;
 use std::alloc::Global;
 

@@ -8,7 +8,7 @@ ghost use Rattle.chare_checker.specs.Tables.{no_counts};
 use crate::fault::{CheckFault, fault_if, sooner};
 use crate::notes::{Notes, PortUse};
 use crate::tables::{Counts, counts_after};
-use chare_syntax::tree::{ArrayDecl, Job, MemberDecl};
+use job_tree::tree::{ArrayDecl, Job, MemberDecl};
 
 /// Of what was found and what is wrong with the ports of a job, the fault that is named. The notes have all its
 /// sends, contributions and receipts.

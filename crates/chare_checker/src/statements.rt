@@ -12,8 +12,8 @@ use crate::notes::{Notes, PortUse};
 use crate::tables::{JobNames, array_number};
 use crate::walk::{PartAt, Scope, Site};
 use chare_base::memory::Memory;
-use chare_syntax::token::Span;
-use chare_syntax::tree::{Block, Expr, StmtDecl, Values};
+use job_tree::token::Span;
+use job_tree::tree::{Block, Expr, StmtDecl, Values};
 
 /// Walks over a block, whose names are those of the job, of an array's table, of a part's parameters and of the
 /// loops around it. A block of a loop or an `if` is nested.

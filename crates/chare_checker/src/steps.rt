@@ -12,8 +12,8 @@ use crate::statements::{is_number, mismatch_fault, port_use, walk_block};
 use crate::tables::JobNames;
 use crate::walk::{PartAt, Scope, Site};
 use chare_base::memory::Memory;
-use chare_syntax::token::Span;
-use chare_syntax::tree::{self, ArrayDecl, Block, Job, PartDecl, StateDecl, StepBody, StepDecl};
+use job_tree::token::Span;
+use job_tree::tree::{self, ArrayDecl, Block, Job, PartDecl, StateDecl, StepBody, StepDecl};
 use sqlite_items::Items;
 use std::alloc::Global;
 

@@ -5,8 +5,8 @@ ghost use Rattle.chare_checker.specs.Tables.{array_number, arrays_named, cells_w
 
 use crate::names::{Meaning, Names, bytes_at};
 use chare_base::memory::Memory;
-use chare_syntax::token::{Num, Span};
-use chare_syntax::tree::{ArrayDecl, Job, MemberDecl, StateDecl};
+use job_tree::token::{Num, Span};
+use job_tree::tree::{ArrayDecl, Job, MemberDecl, StateDecl};
 use sqlite_items::Items;
 use std::alloc::Global;
 

@@ -6,7 +6,7 @@ ghost use Rattle.chare_checker.specs.Expressions.{is_local};
 
 use crate::names::{Meaning, Names, bytes_at, local_named};
 use crate::tables::JobNames;
-use chare_syntax::token::Span;
+use job_tree::token::Span;
 
 /// The names that are declared around the expressions and statements of an array.
 #[derive(Clone, Copy)]

@@ -8,10 +8,10 @@ use Rattle.chare_checker.specs.Accepted.{IsPlan, IsRefused, RefusedHasNone}
 use Rattle.chare_checker.specs.Checked.{Checks, first_fault, plan_of}
 use Rattle.chare_checker.specs.Faults.{place_of}
 use Rattle.chare_checker.specs.Wording.{fault_code, parse_code, parse_place, wording}
-use Rattle.chare_syntax.specs.declared.fault.ParseFault.{ParseFault}
-use Rattle.chare_syntax.specs.declared.fault.ParseFault.TheVariants as parses
-use Rattle.chare_syntax.specs.declared.tree.Job.{Job as Tree}
-use Rattle.chare_syntax.specs.Text.{ReadsAs, ReadsAsNone, TextFault}
+use Rattle.job_tree.specs.declared.fault.ParseFault.{ParseFault}
+use Rattle.job_tree.specs.declared.fault.ParseFault.TheVariants as parses
+use Rattle.job_tree.specs.declared.tree.Job.{Job as Tree}
+use Rattle.job_tree.specs.Text.{ReadsAs, ReadsAsNone, TextFault}
 use Rattle.run_ledger.specs.Laws.{AcceptThenDoneIsLawful}
 use Rattle.run_report.specs.Laws.{ReportsAreFaultFree}
 use Rattle.run_report.specs.Report.{report}

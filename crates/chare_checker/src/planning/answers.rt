@@ -10,8 +10,8 @@ use crate::tables::{JobNames, array_number};
 use chare_base::memory::Memory;
 use chare_base::plan::{Answer, Array, ElementId};
 use chare_base::range::Range;
-use chare_syntax::token::Num;
-use chare_syntax::tree::{AnswerDecl, Coordinates};
+use job_tree::token::Num;
+use job_tree::tree::{AnswerDecl, Coordinates};
 use sqlite_items::Items;
 use std::alloc::Global;
 

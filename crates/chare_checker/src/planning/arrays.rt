@@ -12,7 +12,7 @@ use crate::tables::{JobNames, cells_written};
 use chare_base::bytes::Name;
 use chare_base::memory::Memory;
 use chare_base::plan::{Array, State};
-use chare_syntax::tree::{ArrayDecl, Coordinates, StateDecl};
+use job_tree::tree::{ArrayDecl, Coordinates, StateDecl};
 use sqlite_items::Items;
 use std::alloc::Global;
 

@@ -10,8 +10,8 @@ use crate::planning::lookups::{Scope, range_or_none, state_range};
 use crate::planning::numbers::{narrow8, narrow63};
 use chare_base::expression::{AddOp, CompareOp, Expr, Factor, MulOp, Term};
 use chare_base::memory::Memory;
-use chare_syntax::token::Span;
-use chare_syntax::tree::{
+use job_tree::token::Span;
+use job_tree::tree::{
     self, Atom, Choice, Conj, Here, Product, ProductTerm, Sum, SumTerm, Test, Unary, Values,
 };
 use sqlite_items::{Boxed, Items};

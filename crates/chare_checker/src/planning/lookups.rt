@@ -8,7 +8,7 @@ use crate::planning::numbers::{narrow16, narrow32};
 use crate::tables::{JobNames, array_number};
 use chare_base::message::{EntryId, Port, ReductionId};
 use chare_base::range::Range;
-use chare_syntax::token::Span;
+use job_tree::token::Span;
 
 /// What names stand for within a part: the names of the job and of the part's array, and the part's parameters.
 #[derive(Clone, Copy)]

@@ -9,7 +9,7 @@ use crate::tables::{array_number, values_written};
 use chare_base::bytes::Name;
 use chare_base::memory::Memory;
 use chare_base::plan::{Edge, Entry, How, Reduction};
-use chare_syntax::tree::{self, ArrayDecl, EdgeDecl, EntryDecl, MemberDecl, Offset, ReduceDecl};
+use job_tree::tree::{self, ArrayDecl, EdgeDecl, EntryDecl, MemberDecl, Offset, ReduceDecl};
 use sqlite_items::Items;
 use std::alloc::Global;
 

@@ -3,7 +3,7 @@
 ghost use Rattle.std.specs.Prelude.{◌≡◌, pos};
 ghost use Rattle.chare_checker.specs.PlannedNumbers.{narrow8, narrow16, narrow32, narrow63, number16, signed8, signed64};
 
-use chare_syntax::tree::SignedNum;
+use job_tree::tree::SignedNum;
 
 /// A number, or 255 where it is greater.
 pub(crate) fn narrow8(number: u64) -> u8

@@ -19,8 +19,8 @@ use chare_base::expression::Expr;
 use chare_base::memory::Memory;
 use chare_base::plan::Stmt;
 use chare_base::range::Range;
-use chare_syntax::token::Span;
-use chare_syntax::tree::{self, Block, SignedNum, StmtDecl, Values};
+use job_tree::token::Span;
+use job_tree::tree::{self, Block, SignedNum, StmtDecl, Values};
 use sqlite_items::Items;
 use std::alloc::Global;
 

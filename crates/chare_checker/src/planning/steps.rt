@@ -10,8 +10,8 @@ use crate::tables::JobNames;
 use chare_base::memory::Memory;
 use chare_base::message::Need;
 use chare_base::plan::{Part, Step};
-use chare_syntax::token::Span;
-use chare_syntax::tree::{self, Block, PartDecl, StepBody, StepDecl};
+use job_tree::token::Span;
+use job_tree::tree::{self, Block, PartDecl, StepBody, StepDecl};
 use sqlite_items::Items;
 use std::alloc::Global;
 
