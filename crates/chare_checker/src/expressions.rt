@@ -1,14 +1,15 @@
 //! The walk over an expression.
 
 ghost use Rattle.std.specs.Prelude.{◌≡◌, OnOk, map};
-ghost use Rattle.chare_checker.specs.Notes.{in_order};
-ghost use Rattle.chare_checker.specs.Expressions.{atom_walked, conj_walked, expr_walked, here_walked, local_fault, misindexed, misplaced, name_walked, product_term_walked, product_walked, state_read, state_use, sum_term_walked, sum_walked, test_walked, unary_walked, value_named, value_walked};
+ghost use Rattle.job_rules.specs.Notes.{in_order};
+ghost use Rattle.job_rules.specs.Expressions.{atom_walked, conj_walked, expr_walked, here_walked, local_fault, misindexed, misplaced, name_walked, product_term_walked, product_walked, state_read, state_use, sum_term_walked, sum_walked, test_walked, unary_walked, value_named, value_walked};
 
-use crate::fault::{CheckFault, fault_if, name_fault};
-use crate::names::Meaning;
-use crate::notes::{Notes, StateUse};
-use crate::walk::{Scope, Site};
+use crate::walk::Scope;
 use chare_base::memory::Memory;
+use job_rules::fault::{CheckFault, fault_if, name_fault};
+use job_rules::names::Meaning;
+use job_rules::notes::{Notes, StateUse};
+use job_rules::walk::Site;
 use job_tree::token::Span;
 use job_tree::tree::{Atom, Conj, Expr, Here, Product, ProductTerm, Sum, SumTerm, Test, Unary};
 
@@ -16,7 +17,7 @@ use job_tree::tree::{Atom, Conj, Expr, Here, Product, ProductTerm, Sum, SumTerm,
 /// around it.
 ///
 /// `Memory`: an allocation was refused.
-#[tactic(auto, unfolding(crate::specs::Expressions::value_walked))]
+#[tactic(auto, unfolding(job_rules::specs::Expressions::value_walked))]
 pub(crate) fn walk_value(
     scope: &Scope,
     site: Site,
@@ -268,7 +269,7 @@ fn walk_atom(
     Ok(())
 }
 
-#[tactic(auto, unfolding(crate::specs::Expressions::name_walked))]
+#[tactic(auto, unfolding(job_rules::specs::Expressions::name_walked))]
 fn walk_name(
     scope: &Scope,
     site: Site,
@@ -367,7 +368,7 @@ fn local_fault(local: bool, name: Span, indexed: bool) -> Option<CheckFault>
     }
 }
 
-#[tactic(auto, unfolding(crate::specs::Expressions::here_walked))]
+#[tactic(auto, unfolding(job_rules::specs::Expressions::here_walked))]
 fn walk_here(site: Site, at: u32, word: Here, notes: &mut Notes)
     ensures { notes.new ≡ here_walked site at word notes.old }
 {

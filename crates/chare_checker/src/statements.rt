@@ -2,16 +2,17 @@
 
 ghost use Rattle.std.specs.Prelude.{◌≡◌, OnOk, map, true};
 ghost use Rattle.std.specs.Option.{option_map};
-ghost use Rattle.chare_checker.specs.Notes.{in_order};
-ghost use Rattle.chare_checker.specs.Statements.{assign_walked, block_walked, contribute_walked, count_values, each_walked, entry_named, for_walked, index_walked, is_number, loop_walked, meant_in, member_named, mismatch_fault, operand_walked, other_walked, port_use, reduction_named, send_walked, stmt_walked, target_named, target_walked, unwritable, values_walked};
+ghost use Rattle.job_rules.specs.Notes.{in_order};
+ghost use Rattle.job_rules.specs.Statements.{assign_walked, block_walked, contribute_walked, count_values, each_walked, entry_named, for_walked, index_walked, is_number, loop_walked, member_named, mismatch_fault, operand_walked, other_walked, port_use, reduction_named, send_walked, stmt_walked, target_named, target_walked, unwritable, values_walked};
 
 use crate::expressions::{misindexed, state_use, walk_value};
-use crate::fault::{CheckFault, fault_if, name_fault};
-use crate::names::{Meaning, bytes_at};
-use crate::notes::{Notes, PortUse};
-use crate::tables::{JobNames, array_number};
-use crate::walk::{PartAt, Scope, Site};
+use crate::tables::{array_number, meant_in};
+use crate::walk::Scope;
 use chare_base::memory::Memory;
+use job_rules::fault::{CheckFault, fault_if, name_fault};
+use job_rules::names::{Meaning, bytes_at};
+use job_rules::notes::{Notes, PortUse};
+use job_rules::walk::{PartAt, Site};
 use job_tree::token::Span;
 use job_tree::tree::{Block, Expr, StmtDecl, Values};
 
@@ -284,7 +285,7 @@ fn count_values(values: &Values) -> usize
     others.len() + 1
 }
 
-#[tactic(auto, unfolding(crate::specs::Statements::target_walked))]
+#[tactic(auto, unfolding(job_rules::specs::Statements::target_walked))]
 fn walk_target(
     scope: &Scope,
     part: usize,
@@ -344,7 +345,7 @@ fn unwritable(local: bool, name: Span) -> Option<CheckFault>
     }
 }
 
-#[tactic(auto, unfolding(crate::specs::Statements::loop_walked))]
+#[tactic(auto, unfolding(job_rules::specs::Statements::loop_walked))]
 fn walk_loop(scope: &Scope, params: &[Span], loops: &[Span], notes: &mut Notes, name: Span)
     ensures { notes.new ≡ loop_walked scope.now.text.now scope.now.table.now params.now loops.now name notes.old }
 {
@@ -353,7 +354,7 @@ fn walk_loop(scope: &Scope, params: &[Span], loops: &[Span], notes: &mut Notes, 
     notes.note(fault_if(taken, CheckFault::Twice { at: name.at }));
 }
 
-#[tactic(auto, unfolding(crate::specs::Statements::send_walked))]
+#[tactic(auto, unfolding(job_rules::specs::Statements::send_walked))]
 fn note_send(
     scope: &Scope,
     part: PartAt,
@@ -374,20 +375,6 @@ fn note_send(
         part, at, nested, count, number, meaning, array, entry, notes,
     )?;
     Ok(())
-}
-
-// What a name means in the array of this number.
-#[tactic(auto, unfolding(crate::specs::Names::lookup))]
-fn meant_in(names: &JobNames, number: Option<usize>, name: &[u8]) -> Option<Meaning>
-    ensures { result ≡ meant_in names.now number name.now }
-{
-    match number {
-        Some(number) => match names.tables.get(number) {
-            Some(table) => table.get(name),
-            None => None,
-        },
-        None => None,
-    }
 }
 
 // A send to an entry of the array of this number, if there is one.
@@ -441,7 +428,7 @@ fn send_to_entry(
     Ok(())
 }
 
-#[tactic(auto, unfolding(crate::specs::Statements::contribute_walked))]
+#[tactic(auto, unfolding(job_rules::specs::Statements::contribute_walked))]
 fn note_contribution(
     scope: &Scope,
     part: PartAt,

@@ -1,11 +1,11 @@
-//! What a walk over an array knows of the place where it is.
+//! What a walk over an array knows of the names around it.
 
 ghost use Rattle.std.specs.Prelude.{◌≡◌};
-ghost use Rattle.chare_checker.specs.Names.{bytes_at, lookup};
-ghost use Rattle.chare_checker.specs.Expressions.{is_local};
+ghost use Rattle.job_rules.specs.Names.{bytes_at, lookup};
+ghost use Rattle.job_rules.specs.Expressions.{is_local};
 
-use crate::names::{Meaning, Names, bytes_at, local_named};
-use crate::tables::JobNames;
+use job_rules::names::{Meaning, Names, bytes_at, local_named};
+use job_rules::tables::JobNames;
 use job_tree::token::Span;
 
 /// The names that are declared around the expressions and statements of an array.
@@ -17,23 +17,6 @@ pub struct Scope<'a> {
     pub names: &'a JobNames,
     /// The names of the array.
     pub table: &'a Names,
-}
-
-/// Where an expression stands.
-#[derive(Clone, Copy, Debug, PartialEq, Eq)]
-pub enum Site {
-    /// In the initial value of a state, which has a size or not.
-    Start { sized: bool },
-    /// In the part of a step that has this number.
-    Part { number: usize },
-}
-
-/// Which part of which step: the numbers of the array, of its step, and of the part in the step.
-#[derive(Clone, Copy, Debug, PartialEq, Eq)]
-pub struct PartAt {
-    pub array: usize,
-    pub step: usize,
-    pub part: usize,
 }
 
 impl<'a> Scope<'a> {

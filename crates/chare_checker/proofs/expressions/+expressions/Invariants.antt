@@ -1,6 +1,6 @@
 use Rattle.std.proofs.Common.{◌≡◌, drop, map}
-use Rattle.chare_checker.specs.Notes.{in_order}
-use Rattle.chare_checker.specs.Expressions.{conj_walked, product_term_walked, sum_term_walked, test_walked}
+use Rattle.job_rules.specs.Notes.{in_order}
+use Rattle.job_rules.specs.Expressions.{conj_walked, product_term_walked, sum_term_walked, test_walked}
 use Rattle.chare_checker.proofs.expressions.+expressions.Given as goal
 
 -- what is left takes what was noted so far to the whole

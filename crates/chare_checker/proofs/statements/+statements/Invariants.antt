@@ -1,5 +1,5 @@
 use Rattle.std.proofs.Common.{◌≡◌, drop, map}
-use Rattle.chare_checker.specs.Statements.{each_walked, stmt_walked}
+use Rattle.job_rules.specs.Statements.{each_walked, stmt_walked}
 use Rattle.chare_checker.proofs.statements.+statements.Given as goal
 
 -- what is left takes what was noted so far to the whole

@@ -1,6 +1,6 @@
 use Rattle.std.proofs.Common.{◌≡◌, drop, map}
-use Rattle.chare_checker.specs.Notes.{in_order}
-use Rattle.chare_checker.specs.Statements.{operand_walked}
+use Rattle.job_rules.specs.Notes.{in_order}
+use Rattle.job_rules.specs.Statements.{operand_walked}
 use Rattle.chare_checker.proofs.statements.walk_operands.Given as goal
 
 abbrev pub invariant-loop-value : goal.invariant-loop-value
