@@ -3,7 +3,7 @@
 ghost use Rattle.std.specs.Prelude.{◌≡◌, OnOk, map, true};
 ghost use Rattle.std.specs.Option.{option_map};
 ghost use Rattle.job_rules.specs.Notes.{in_order};
-ghost use Rattle.job_rules.specs.Statements.{assign_walked, block_walked, contribute_walked, count_values, each_walked, entry_named, for_walked, index_walked, is_number, loop_walked, member_named, mismatch_fault, operand_walked, other_walked, port_use, reduction_named, send_walked, stmt_walked, target_named, target_walked, unwritable, values_walked};
+ghost use Rattle.job_rules.specs.Statements.{assign_walked, block_walked, contribute_walked, count_values, each_walked, entry_named, for_walked, if_walked, index_walked, is_number, loop_walked, member_named, mismatch_fault, operand_walked, other_walked, port_use, reduction_named, send_walked, stmt_walked, target_named, target_walked, unwritable, values_walked};
 
 use crate::expressions::{misindexed, state_use, walk_value};
 use crate::tables::{array_number, meant_in};
@@ -88,11 +88,7 @@ fn walk_stmt(
             block,
             other,
             ..
-        } => {
-            walk_operand(scope, part, params, loops, notes, test)?;
-            walk_block(scope, part, params, loops, true, notes, block)?;
-            walk_other(scope, part, params, loops, notes, other)?;
-        }
+        } => walk_if(scope, part, params, loops, notes, test, block, other)?,
         StmtDecl::For { name, block, .. } => {
             walk_for(scope, part, params, loops, notes, *name, block)?;
         }
@@ -108,6 +104,26 @@ fn walk_stmt(
             walk_contribute(scope, part, params, loops, nested, notes, *at, *name, value)?;
         }
     }
+    Ok(())
+}
+
+#[cycle(statements)]
+fn walk_if(
+    scope: &Scope,
+    part: PartAt,
+    params: &[Span],
+    loops: &mut Vec<Span>,
+    notes: &mut Notes,
+    test: &Expr,
+    block: &Block,
+    other: &Option<Block>,
+) -> Result<(), Memory>
+    ensures exact { OnOk result (notes.new ≡ if_walked (operand_walked scope.now.text.now scope.now.table.now part params.now loops.old.items test.now) (block_walked scope.now.text.now scope.now.names.now scope.now.table.now part params.now block.now) (option_map (block_walked scope.now.text.now scope.now.names.now scope.now.table.now part params.now) other.now) loops.old.items notes.old) }
+    ensures loops { OnOk result (loops.new.items ≡ loops.old.items) }
+{
+    walk_operand(scope, part, params, loops, notes, test)?;
+    walk_block(scope, part, params, loops, true, notes, block)?;
+    walk_other(scope, part, params, loops, notes, other)?;
     Ok(())
 }
 

@@ -51,3 +51,7 @@ OnePlan = (text : List ℕ) (p q : Plan) → IsPlan text p → IsPlan text q →
 -- a text that is refused has no plan
 abbrev pub RefusedHasNone : Type 0
 RefusedHasNone = (text : List ℕ) (at code : ℕ) → IsRefused text at code → HasNoPlan text
+
+-- a text that is refused is refused at one place, with one word
+abbrev pub OneRefusal : Type 0
+OneRefusal = (text : List ℕ) (at code other_at other_code : ℕ) → IsRefused text at code → IsRefused text other_at other_code → (at ≡ other_at) × (code ≡ other_code)

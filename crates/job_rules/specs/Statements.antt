@@ -37,6 +37,10 @@ abbrev pub other_walked : Option Within → Within
 other_walked None loops nested n = n
 other_walked (Some block) loops nested n = block loops nested n
 
+-- an `if` whose test notes this, with what stands behind `else`
+abbrev pub if_walked : Walk → Within → Option Within → List Span → Walk
+if_walked test block other loops n = other_walked other loops true (block loops true (test n))
+
 -- a loop whose head notes this, and within which its name is known
 abbrev pub for_walked : Walk → Span → Within → List Span → Walk
 for_walked head name block loops n = block (loops ++ name ∷ []) true (head n)
@@ -126,8 +130,7 @@ count_values v = suc (length v.others)
 module _ (text : List ℕ) (names : JobNames) (table : List Known) (part : PartAt) (params : List Span) where
   abbrev pub stmt_step : StmtDecl-F Within Within → Within
   stmt_step (StmtDecl-F.Assign target index value) loops nested n = assign_walked text table part params loops target index value n
-  stmt_step (StmtDecl-F.If at test block other) loops nested n =
-      other_walked other loops true (block loops true (operand_walked text table part params loops test n))
+  stmt_step (StmtDecl-F.If at test block other) loops nested n = if_walked (operand_walked text table part params loops test) block other loops n
   stmt_step (StmtDecl-F.For at name low high block) loops nested n = for_walked (loop_walked text table params loops name) name block loops n
   stmt_step (StmtDecl-F.Send at array entry values) loops nested n =
       values_walked text table part params loops values

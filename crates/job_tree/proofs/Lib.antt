@@ -12,3 +12,4 @@ pub mod OfDeclarations
 pub mod Texts
 pub mod Parts
 pub mod Loops
+pub mod Unique

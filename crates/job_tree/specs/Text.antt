@@ -24,3 +24,7 @@ abbrev pub TextFault : List ℕ → ParseFault → Type 0
 TextFault text faults.Memory = Unit {0}
 TextFault text (faults.TooLong at) = (at ≡ 65536) × (65536 < length text)
 TextFault text fault = (length text ≤ 65536) × Faulty (tokens text) fault
+
+-- the faults that a text has are equal, but for the one of a call that runs out of memory
+abbrev pub OneFault : Type 0
+OneFault = (text : List ℕ) (f g : ParseFault) → (f ≡ faults.Memory → ⊥) → (g ≡ faults.Memory → ⊥) → TextFault text f → TextFault text g → f ≡ g

@@ -1,7 +1,7 @@
 //! Laws of the language's text.
 
 ghost use Rattle.job_tree.specs.Accepted.{OneJob};
-ghost use Rattle.job_tree.specs.Text.{OneTree};
+ghost use Rattle.job_tree.specs.Text.{OneFault, OneTree};
 ghost use Rattle.job_tree.specs.Tokens.{EndsOnce};
 
 /// A text's tokens end once: the last one, and no other, is `End`, `Bad` or `TooLarge`.
@@ -17,4 +17,9 @@ pub fn one_job()
 /// A text is that of one job at most.
 pub fn one_tree()
     ensures { OneTree }
+{}
+
+/// A text that is no job has one fault: any two that it has are equal, but for `Memory`.
+pub fn one_fault()
+    ensures { OneFault }
 {}

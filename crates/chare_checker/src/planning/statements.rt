@@ -76,12 +76,7 @@ fn plan_stmt(
             block,
             other,
             ..
-        } => {
-            let test = plan_value(alloc, scope, loops, test)?;
-            let yes = plan_block(alloc, scope, loops, block)?;
-            let no = plan_other(alloc, scope, loops, other)?;
-            Ok(Stmt::If { test, yes, no })
-        }
+        } => plan_if(alloc, scope, loops, test, block, other),
         StmtDecl::For {
             name,
             low,
@@ -99,6 +94,24 @@ fn plan_stmt(
             plan_contribute(alloc, scope, loops, *name, value)
         }
     }
+}
+
+#[cycle(statements)]
+fn plan_if(
+    alloc: Global,
+    scope: &Scope<'_>,
+    loops: &mut Vec<Span>,
+    test: &tree::Expr,
+    block: &Block,
+    other: &Option<Block>,
+) -> Result<Stmt, Memory>
+    ensures exact { IfOk result (λ planned. planned ≡ stmts.If (value_planned scope.now.text.now scope.now.table.now scope.now.params.now loops.old.items test.now) (block_planned scope.now.text.now scope.now.names.now scope.now.table.now scope.now.params.now block.now loops.old.items) (other_planned (option_map (block_planned scope.now.text.now scope.now.names.now scope.now.table.now scope.now.params.now) other.now) loops.old.items)) }
+    ensures loops { OnOk result (loops.new.items ≡ loops.old.items) }
+{
+    let test = plan_value(alloc, scope, loops, test)?;
+    let yes = plan_block(alloc, scope, loops, block)?;
+    let no = plan_other(alloc, scope, loops, other)?;
+    Ok(Stmt::If { test, yes, no })
 }
 
 // The plan of what stands behind `else`, empty where nothing does.
