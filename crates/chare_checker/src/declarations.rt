@@ -10,9 +10,7 @@ use job_rules::fault::{CheckFault, fault_if, name_fault, sooner};
 use job_rules::names::{Meaning, bytes_at};
 use job_rules::tables::{Counts, JobNames};
 use job_tree::token::{Num, Span};
-use job_tree::tree::{
-    ArrayDecl, Coordinates, EntryDecl, Job, MemberDecl, SignedNum, StateDecl,
-};
+use job_tree::tree::{ArrayDecl, Coordinates, EntryDecl, Job, MemberDecl, SignedNum, StateDecl};
 
 /// Of what was found and what the declarations of a job break, the fault that is named.
 #[tactic(auto, unfolding(job_rules::specs::Declarations::declarations_found))]

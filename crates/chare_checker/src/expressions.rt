@@ -21,14 +21,13 @@ use job_tree::tree::{Atom, Conj, Expr, Here, Product, ProductTerm, Sum, SumTerm,
 pub(crate) fn walk_value(
     scope: &Scope,
     site: Site,
-    params: &[Span],
     loops: &[Span],
     notes: &mut Notes,
     value: &Expr,
 ) -> Result<(), Memory>
-    ensures { OnOk result (notes.new ≡ value_walked scope.now.text.now scope.now.table.now site params.now loops.now value.now notes.old) }
+    ensures { OnOk result (notes.new ≡ value_walked scope.now.text.now scope.now.table.now site scope.now.params.now loops.now value.now notes.old) }
 {
-    walk_expr(scope, site, params, loops, notes, value)?;
+    walk_expr(scope, site, loops, notes, value)?;
     Ok(())
 }
 
@@ -36,15 +35,14 @@ pub(crate) fn walk_value(
 fn walk_expr(
     scope: &Scope,
     site: Site,
-    params: &[Span],
     loops: &[Span],
     notes: &mut Notes,
     expr: &Expr,
 ) -> Result<(), Memory>
-    ensures { OnOk result (notes.new ≡ expr_walked scope.now.text.now scope.now.table.now site params.now loops.now expr.now notes.old) }
+    ensures { OnOk result (notes.new ≡ expr_walked scope.now.text.now scope.now.table.now site scope.now.params.now loops.now expr.now notes.old) }
 {
-    walk_conj(scope, site, params, loops, notes, &expr.first)?;
-    walk_conjs(scope, site, params, loops, notes, expr.others.as_slice())?;
+    walk_conj(scope, site, loops, notes, &expr.first)?;
+    walk_conjs(scope, site, loops, notes, expr.others.as_slice())?;
     Ok(())
 }
 
@@ -52,15 +50,14 @@ fn walk_expr(
 fn walk_conjs(
     scope: &Scope,
     site: Site,
-    params: &[Span],
     loops: &[Span],
     notes: &mut Notes,
     conjs: &[Conj],
 ) -> Result<(), Memory>
-    ensures { OnOk result (notes.new ≡ in_order (map (conj_walked scope.now.text.now scope.now.table.now site params.now loops.now) conjs.now) notes.old) }
+    ensures { OnOk result (notes.new ≡ in_order (map (conj_walked scope.now.text.now scope.now.table.now site scope.now.params.now loops.now) conjs.now) notes.old) }
 {
     for conj in conjs {
-        walk_conj(scope, site, params, loops, notes, conj)?;
+        walk_conj(scope, site, loops, notes, conj)?;
     }
     Ok(())
 }
@@ -69,15 +66,14 @@ fn walk_conjs(
 fn walk_conj(
     scope: &Scope,
     site: Site,
-    params: &[Span],
     loops: &[Span],
     notes: &mut Notes,
     conj: &Conj,
 ) -> Result<(), Memory>
-    ensures { OnOk result (notes.new ≡ conj_walked scope.now.text.now scope.now.table.now site params.now loops.now conj.now notes.old) }
+    ensures { OnOk result (notes.new ≡ conj_walked scope.now.text.now scope.now.table.now site scope.now.params.now loops.now conj.now notes.old) }
 {
-    walk_test(scope, site, params, loops, notes, conj.first.get())?;
-    walk_tests(scope, site, params, loops, notes, conj.others.as_slice())?;
+    walk_test(scope, site, loops, notes, conj.first.get())?;
+    walk_tests(scope, site, loops, notes, conj.others.as_slice())?;
     Ok(())
 }
 
@@ -85,15 +81,14 @@ fn walk_conj(
 fn walk_tests(
     scope: &Scope,
     site: Site,
-    params: &[Span],
     loops: &[Span],
     notes: &mut Notes,
     tests: &[Test],
 ) -> Result<(), Memory>
-    ensures { OnOk result (notes.new ≡ in_order (map (test_walked scope.now.text.now scope.now.table.now site params.now loops.now) tests.now) notes.old) }
+    ensures { OnOk result (notes.new ≡ in_order (map (test_walked scope.now.text.now scope.now.table.now site scope.now.params.now loops.now) tests.now) notes.old) }
 {
     for test in tests {
-        walk_test(scope, site, params, loops, notes, test)?;
+        walk_test(scope, site, loops, notes, test)?;
     }
     Ok(())
 }
@@ -102,19 +97,18 @@ fn walk_tests(
 fn walk_test(
     scope: &Scope,
     site: Site,
-    params: &[Span],
     loops: &[Span],
     notes: &mut Notes,
     test: &Test,
 ) -> Result<(), Memory>
-    ensures { OnOk result (notes.new ≡ test_walked scope.now.text.now scope.now.table.now site params.now loops.now test.now notes.old) }
+    ensures { OnOk result (notes.new ≡ test_walked scope.now.text.now scope.now.table.now site scope.now.params.now loops.now test.now notes.old) }
 {
     match test {
-        Test::Not { operand, .. } => walk_test(scope, site, params, loops, notes, operand.get())?,
-        Test::Alone(sum) => walk_sum(scope, site, params, loops, notes, sum)?,
+        Test::Not { operand, .. } => walk_test(scope, site, loops, notes, operand.get())?,
+        Test::Alone(sum) => walk_sum(scope, site, loops, notes, sum)?,
         Test::Compare { left, right, .. } => {
-            walk_sum(scope, site, params, loops, notes, left)?;
-            walk_sum(scope, site, params, loops, notes, right)?;
+            walk_sum(scope, site, loops, notes, left)?;
+            walk_sum(scope, site, loops, notes, right)?;
         }
     }
     Ok(())
@@ -124,15 +118,14 @@ fn walk_test(
 fn walk_sum(
     scope: &Scope,
     site: Site,
-    params: &[Span],
     loops: &[Span],
     notes: &mut Notes,
     sum: &Sum,
 ) -> Result<(), Memory>
-    ensures { OnOk result (notes.new ≡ sum_walked scope.now.text.now scope.now.table.now site params.now loops.now sum.now notes.old) }
+    ensures { OnOk result (notes.new ≡ sum_walked scope.now.text.now scope.now.table.now site scope.now.params.now loops.now sum.now notes.old) }
 {
-    walk_product(scope, site, params, loops, notes, sum.first.get())?;
-    walk_sum_terms(scope, site, params, loops, notes, sum.others.as_slice())?;
+    walk_product(scope, site, loops, notes, sum.first.get())?;
+    walk_sum_terms(scope, site, loops, notes, sum.others.as_slice())?;
     Ok(())
 }
 
@@ -140,15 +133,14 @@ fn walk_sum(
 fn walk_sum_terms(
     scope: &Scope,
     site: Site,
-    params: &[Span],
     loops: &[Span],
     notes: &mut Notes,
     sum_terms: &[SumTerm],
 ) -> Result<(), Memory>
-    ensures { OnOk result (notes.new ≡ in_order (map (sum_term_walked scope.now.text.now scope.now.table.now site params.now loops.now) sum_terms.now) notes.old) }
+    ensures { OnOk result (notes.new ≡ in_order (map (sum_term_walked scope.now.text.now scope.now.table.now site scope.now.params.now loops.now) sum_terms.now) notes.old) }
 {
     for sum_term in sum_terms {
-        walk_sum_term(scope, site, params, loops, notes, sum_term)?;
+        walk_sum_term(scope, site, loops, notes, sum_term)?;
     }
     Ok(())
 }
@@ -157,14 +149,13 @@ fn walk_sum_terms(
 fn walk_sum_term(
     scope: &Scope,
     site: Site,
-    params: &[Span],
     loops: &[Span],
     notes: &mut Notes,
     sum_term: &SumTerm,
 ) -> Result<(), Memory>
-    ensures { OnOk result (notes.new ≡ sum_term_walked scope.now.text.now scope.now.table.now site params.now loops.now sum_term.now notes.old) }
+    ensures { OnOk result (notes.new ≡ sum_term_walked scope.now.text.now scope.now.table.now site scope.now.params.now loops.now sum_term.now notes.old) }
 {
-    walk_product(scope, site, params, loops, notes, &sum_term.value)?;
+    walk_product(scope, site, loops, notes, &sum_term.value)?;
     Ok(())
 }
 
@@ -172,15 +163,14 @@ fn walk_sum_term(
 fn walk_product(
     scope: &Scope,
     site: Site,
-    params: &[Span],
     loops: &[Span],
     notes: &mut Notes,
     product: &Product,
 ) -> Result<(), Memory>
-    ensures { OnOk result (notes.new ≡ product_walked scope.now.text.now scope.now.table.now site params.now loops.now product.now notes.old) }
+    ensures { OnOk result (notes.new ≡ product_walked scope.now.text.now scope.now.table.now site scope.now.params.now loops.now product.now notes.old) }
 {
-    walk_unary(scope, site, params, loops, notes, &product.first)?;
-    walk_product_terms(scope, site, params, loops, notes, product.others.as_slice())?;
+    walk_unary(scope, site, loops, notes, &product.first)?;
+    walk_product_terms(scope, site, loops, notes, product.others.as_slice())?;
     Ok(())
 }
 
@@ -188,15 +178,14 @@ fn walk_product(
 fn walk_product_terms(
     scope: &Scope,
     site: Site,
-    params: &[Span],
     loops: &[Span],
     notes: &mut Notes,
     product_terms: &[ProductTerm],
 ) -> Result<(), Memory>
-    ensures { OnOk result (notes.new ≡ in_order (map (product_term_walked scope.now.text.now scope.now.table.now site params.now loops.now) product_terms.now) notes.old) }
+    ensures { OnOk result (notes.new ≡ in_order (map (product_term_walked scope.now.text.now scope.now.table.now site scope.now.params.now loops.now) product_terms.now) notes.old) }
 {
     for product_term in product_terms {
-        walk_product_term(scope, site, params, loops, notes, product_term)?;
+        walk_product_term(scope, site, loops, notes, product_term)?;
     }
     Ok(())
 }
@@ -205,14 +194,13 @@ fn walk_product_terms(
 fn walk_product_term(
     scope: &Scope,
     site: Site,
-    params: &[Span],
     loops: &[Span],
     notes: &mut Notes,
     product_term: &ProductTerm,
 ) -> Result<(), Memory>
-    ensures { OnOk result (notes.new ≡ product_term_walked scope.now.text.now scope.now.table.now site params.now loops.now product_term.now notes.old) }
+    ensures { OnOk result (notes.new ≡ product_term_walked scope.now.text.now scope.now.table.now site scope.now.params.now loops.now product_term.now notes.old) }
 {
-    walk_unary(scope, site, params, loops, notes, &product_term.value)?;
+    walk_unary(scope, site, loops, notes, &product_term.value)?;
     Ok(())
 }
 
@@ -220,23 +208,15 @@ fn walk_product_term(
 fn walk_unary(
     scope: &Scope,
     site: Site,
-    params: &[Span],
     loops: &[Span],
     notes: &mut Notes,
     unary: &Unary,
 ) -> Result<(), Memory>
-    ensures { OnOk result (notes.new ≡ unary_walked scope.now.text.now scope.now.table.now site params.now loops.now unary.now notes.old) }
+    ensures { OnOk result (notes.new ≡ unary_walked scope.now.text.now scope.now.table.now site scope.now.params.now loops.now unary.now notes.old) }
 {
     match unary {
-        Unary::Minus { operand, .. } => walk_unary(
-            scope,
-            site,
-            params,
-            loops,
-            notes,
-            operand.get(),
-        )?,
-        Unary::Atom(atom) => walk_atom(scope, site, params, loops, notes, atom)?,
+        Unary::Minus { operand, .. } => walk_unary(scope, site, loops, notes, operand.get())?,
+        Unary::Atom(atom) => walk_atom(scope, site, loops, notes, atom)?,
     }
     Ok(())
 }
@@ -245,26 +225,25 @@ fn walk_unary(
 fn walk_atom(
     scope: &Scope,
     site: Site,
-    params: &[Span],
     loops: &[Span],
     notes: &mut Notes,
     atom: &Atom,
 ) -> Result<(), Memory>
-    ensures { OnOk result (notes.new ≡ atom_walked scope.now.text.now scope.now.table.now site params.now loops.now atom.now notes.old) }
+    ensures { OnOk result (notes.new ≡ atom_walked scope.now.text.now scope.now.table.now site scope.now.params.now loops.now atom.now notes.old) }
 {
     match atom {
         Atom::Number(_) => {}
-        Atom::Name(name) => walk_name(scope, site, params, loops, notes, *name, false)?,
+        Atom::Name(name) => walk_name(scope, site, loops, notes, *name, false)?,
         Atom::Cell { name, index } => {
-            walk_name(scope, site, params, loops, notes, *name, true)?;
-            walk_expr(scope, site, params, loops, notes, index.get())?;
+            walk_name(scope, site, loops, notes, *name, true)?;
+            walk_expr(scope, site, loops, notes, index.get())?;
         }
         Atom::Here { at, word } => walk_here(site, *at, *word, notes),
         Atom::Choice { first, second, .. } => {
-            walk_expr(scope, site, params, loops, notes, first.get())?;
-            walk_expr(scope, site, params, loops, notes, second.get())?;
+            walk_expr(scope, site, loops, notes, first.get())?;
+            walk_expr(scope, site, loops, notes, second.get())?;
         }
-        Atom::Group { inner, .. } => walk_expr(scope, site, params, loops, notes, inner.get())?,
+        Atom::Group { inner, .. } => walk_expr(scope, site, loops, notes, inner.get())?,
     }
     Ok(())
 }
@@ -273,16 +252,15 @@ fn walk_atom(
 fn walk_name(
     scope: &Scope,
     site: Site,
-    params: &[Span],
     loops: &[Span],
     notes: &mut Notes,
     name: Span,
     indexed: bool,
 ) -> Result<(), Memory>
-    ensures { OnOk result (notes.new ≡ name_walked scope.now.text.now scope.now.table.now site params.now loops.now name indexed notes.old) }
+    ensures { OnOk result (notes.new ≡ name_walked scope.now.text.now scope.now.table.now site scope.now.params.now loops.now name indexed notes.old) }
 {
     let meaning = scope.meaning(name);
-    let local = scope.is_local(params, loops, name);
+    let local = scope.is_local(loops, name);
     notes.note(name_fault(name));
     read_name(site, meaning, local, name, indexed, notes)?;
     Ok(())

@@ -24,19 +24,17 @@ use job_tree::tree::{Block, Expr, StmtDecl, Values};
 pub(crate) fn walk_block(
     scope: &Scope,
     part: PartAt,
-    params: &[Span],
     loops: &mut Vec<Span>,
     nested: bool,
     notes: &mut Notes,
     block: &Block,
 ) -> Result<(), Memory>
-    ensures exact { OnOk result (notes.new ≡ block_walked scope.now.text.now scope.now.names.now scope.now.table.now part params.now block.now loops.old.items nested notes.old) }
+    ensures exact { OnOk result (notes.new ≡ block_walked scope.now.text.now scope.now.names.now scope.now.table.now part scope.now.params.now block.now loops.old.items nested notes.old) }
     ensures loops { OnOk result (loops.new.items ≡ loops.old.items) }
 {
     walk_stmts(
         scope,
         part,
-        params,
         loops,
         nested,
         notes,
@@ -49,17 +47,16 @@ pub(crate) fn walk_block(
 fn walk_stmts(
     scope: &Scope,
     part: PartAt,
-    params: &[Span],
     loops: &mut Vec<Span>,
     nested: bool,
     notes: &mut Notes,
     stmts: &[StmtDecl],
 ) -> Result<(), Memory>
-    ensures exact { OnOk result (notes.new ≡ each_walked (map (stmt_walked scope.now.text.now scope.now.names.now scope.now.table.now part params.now) stmts.now) loops.old.items nested notes.old) }
+    ensures exact { OnOk result (notes.new ≡ each_walked (map (stmt_walked scope.now.text.now scope.now.names.now scope.now.table.now part scope.now.params.now) stmts.now) loops.old.items nested notes.old) }
     ensures loops { OnOk result (loops.new.items ≡ loops.old.items) }
 {
     for stmt in stmts {
-        walk_stmt(scope, part, params, loops, nested, notes, stmt)?;
+        walk_stmt(scope, part, loops, nested, notes, stmt)?;
     }
     Ok(())
 }
@@ -68,13 +65,12 @@ fn walk_stmts(
 fn walk_stmt(
     scope: &Scope,
     part: PartAt,
-    params: &[Span],
     loops: &mut Vec<Span>,
     nested: bool,
     notes: &mut Notes,
     stmt: &StmtDecl,
 ) -> Result<(), Memory>
-    ensures exact { OnOk result (notes.new ≡ stmt_walked scope.now.text.now scope.now.names.now scope.now.table.now part params.now stmt.now loops.old.items nested notes.old) }
+    ensures exact { OnOk result (notes.new ≡ stmt_walked scope.now.text.now scope.now.names.now scope.now.table.now part scope.now.params.now stmt.now loops.old.items nested notes.old) }
     ensures loops { OnOk result (loops.new.items ≡ loops.old.items) }
 {
     match stmt {
@@ -82,15 +78,15 @@ fn walk_stmt(
             target,
             index,
             value,
-        } => walk_assign(scope, part, params, loops, notes, *target, index, value)?,
+        } => walk_assign(scope, part, loops, notes, *target, index, value)?,
         StmtDecl::If {
             test,
             block,
             other,
             ..
-        } => walk_if(scope, part, params, loops, notes, test, block, other)?,
+        } => walk_if(scope, part, loops, notes, test, block, other)?,
         StmtDecl::For { name, block, .. } => {
-            walk_for(scope, part, params, loops, notes, *name, block)?;
+            walk_for(scope, part, loops, notes, *name, block)?;
         }
         StmtDecl::Send {
             at,
@@ -98,10 +94,10 @@ fn walk_stmt(
             entry,
             values,
         } => walk_send(
-            scope, part, params, loops, nested, notes, *at, *array, *entry, values,
+            scope, part, loops, nested, notes, *at, *array, *entry, values,
         )?,
         StmtDecl::Contribute { at, name, value } => {
-            walk_contribute(scope, part, params, loops, nested, notes, *at, *name, value)?;
+            walk_contribute(scope, part, loops, nested, notes, *at, *name, value)?;
         }
     }
     Ok(())
@@ -111,19 +107,18 @@ fn walk_stmt(
 fn walk_if(
     scope: &Scope,
     part: PartAt,
-    params: &[Span],
     loops: &mut Vec<Span>,
     notes: &mut Notes,
     test: &Expr,
     block: &Block,
     other: &Option<Block>,
 ) -> Result<(), Memory>
-    ensures exact { OnOk result (notes.new ≡ if_walked (operand_walked scope.now.text.now scope.now.table.now part params.now loops.old.items test.now) (block_walked scope.now.text.now scope.now.names.now scope.now.table.now part params.now block.now) (option_map (block_walked scope.now.text.now scope.now.names.now scope.now.table.now part params.now) other.now) loops.old.items notes.old) }
+    ensures exact { OnOk result (notes.new ≡ if_walked (operand_walked scope.now.text.now scope.now.table.now part scope.now.params.now loops.old.items test.now) (block_walked scope.now.text.now scope.now.names.now scope.now.table.now part scope.now.params.now block.now) (option_map (block_walked scope.now.text.now scope.now.names.now scope.now.table.now part scope.now.params.now) other.now) loops.old.items notes.old) }
     ensures loops { OnOk result (loops.new.items ≡ loops.old.items) }
 {
-    walk_operand(scope, part, params, loops, notes, test)?;
-    walk_block(scope, part, params, loops, true, notes, block)?;
-    walk_other(scope, part, params, loops, notes, other)?;
+    walk_operand(scope, part, loops, notes, test)?;
+    walk_block(scope, part, loops, true, notes, block)?;
+    walk_other(scope, part, loops, notes, other)?;
     Ok(())
 }
 
@@ -131,18 +126,17 @@ fn walk_if(
 fn walk_for(
     scope: &Scope,
     part: PartAt,
-    params: &[Span],
     loops: &mut Vec<Span>,
     notes: &mut Notes,
     name: Span,
     block: &Block,
 ) -> Result<(), Memory>
-    ensures exact { OnOk result (notes.new ≡ for_walked (loop_walked scope.now.text.now scope.now.table.now params.now loops.old.items name) name (block_walked scope.now.text.now scope.now.names.now scope.now.table.now part params.now block.now) loops.old.items notes.old) }
+    ensures exact { OnOk result (notes.new ≡ for_walked (loop_walked scope.now.text.now scope.now.table.now scope.now.params.now loops.old.items name) name (block_walked scope.now.text.now scope.now.names.now scope.now.table.now part scope.now.params.now block.now) loops.old.items notes.old) }
     ensures loops { OnOk result (loops.new.items ≡ loops.old.items) }
 {
-    walk_loop(scope, params, loops, notes, name);
+    walk_loop(scope, loops, notes, name);
     loops.push(name)?;
-    walk_block(scope, part, params, loops, true, notes, block)?;
+    walk_block(scope, part, loops, true, notes, block)?;
     loops.pop();
     Ok(())
 }
@@ -150,26 +144,17 @@ fn walk_for(
 fn walk_assign(
     scope: &Scope,
     part: PartAt,
-    params: &[Span],
     loops: &[Span],
     notes: &mut Notes,
     target: Span,
     index: &Option<Expr>,
     value: &Expr,
 ) -> Result<(), Memory>
-    ensures { OnOk result (notes.new ≡ assign_walked scope.now.text.now scope.now.table.now part params.now loops.now target index.now value.now notes.old) }
+    ensures { OnOk result (notes.new ≡ assign_walked scope.now.text.now scope.now.table.now part scope.now.params.now loops.now target index.now value.now notes.old) }
 {
-    walk_target(
-        scope,
-        part.part,
-        params,
-        loops,
-        notes,
-        target,
-        index.is_some(),
-    )?;
-    walk_index(scope, part, params, loops, notes, index)?;
-    walk_operand(scope, part, params, loops, notes, value)?;
+    walk_target(scope, part.part, loops, notes, target, index.is_some())?;
+    walk_index(scope, part, loops, notes, index)?;
+    walk_operand(scope, part, loops, notes, value)?;
     Ok(())
 }
 
@@ -178,16 +163,15 @@ fn walk_assign(
 fn walk_other(
     scope: &Scope,
     part: PartAt,
-    params: &[Span],
     loops: &mut Vec<Span>,
     notes: &mut Notes,
     other: &Option<Block>,
 ) -> Result<(), Memory>
-    ensures exact { OnOk result (notes.new ≡ other_walked (option_map (block_walked scope.now.text.now scope.now.names.now scope.now.table.now part params.now) other.now) loops.old.items true notes.old) }
+    ensures exact { OnOk result (notes.new ≡ other_walked (option_map (block_walked scope.now.text.now scope.now.names.now scope.now.table.now part scope.now.params.now) other.now) loops.old.items true notes.old) }
     ensures loops { OnOk result (loops.new.items ≡ loops.old.items) }
 {
     match other {
-        Some(block) => walk_block(scope, part, params, loops, true, notes, block)?,
+        Some(block) => walk_block(scope, part, loops, true, notes, block)?,
         None => {}
     }
     Ok(())
@@ -196,30 +180,28 @@ fn walk_other(
 fn walk_operand(
     scope: &Scope,
     part: PartAt,
-    params: &[Span],
     loops: &[Span],
     notes: &mut Notes,
     value: &Expr,
 ) -> Result<(), Memory>
-    ensures { OnOk result (notes.new ≡ operand_walked scope.now.text.now scope.now.table.now part params.now loops.now value.now notes.old) }
+    ensures { OnOk result (notes.new ≡ operand_walked scope.now.text.now scope.now.table.now part scope.now.params.now loops.now value.now notes.old) }
 {
     let site = Site::Part { number: part.part };
-    walk_value(scope, site, params, loops, notes, value)?;
+    walk_value(scope, site, loops, notes, value)?;
     Ok(())
 }
 
 fn walk_index(
     scope: &Scope,
     part: PartAt,
-    params: &[Span],
     loops: &[Span],
     notes: &mut Notes,
     index: &Option<Expr>,
 ) -> Result<(), Memory>
-    ensures { OnOk result (notes.new ≡ index_walked scope.now.text.now scope.now.table.now part params.now loops.now index.now notes.old) }
+    ensures { OnOk result (notes.new ≡ index_walked scope.now.text.now scope.now.table.now part scope.now.params.now loops.now index.now notes.old) }
 {
     match index {
-        Some(index) => walk_operand(scope, part, params, loops, notes, index)?,
+        Some(index) => walk_operand(scope, part, loops, notes, index)?,
         None => {}
     }
     Ok(())
@@ -228,7 +210,6 @@ fn walk_index(
 fn walk_send(
     scope: &Scope,
     part: PartAt,
-    params: &[Span],
     loops: &[Span],
     nested: bool,
     notes: &mut Notes,
@@ -237,18 +218,17 @@ fn walk_send(
     entry: Span,
     values: &Values,
 ) -> Result<(), Memory>
-    ensures { OnOk result (notes.new ≡ values_walked scope.now.text.now scope.now.table.now part params.now loops.now values.now (send_walked scope.now.text.now scope.now.names.now part at nested (count_values values.now) array entry notes.old)) }
+    ensures { OnOk result (notes.new ≡ values_walked scope.now.text.now scope.now.table.now part scope.now.params.now loops.now values.now (send_walked scope.now.text.now scope.now.names.now part at nested (count_values values.now) array entry notes.old)) }
 {
     let count = count_values(values);
     note_send(scope, part, at, nested, count, array, entry, notes)?;
-    walk_values(scope, part, params, loops, notes, values)?;
+    walk_values(scope, part, loops, notes, values)?;
     Ok(())
 }
 
 fn walk_contribute(
     scope: &Scope,
     part: PartAt,
-    params: &[Span],
     loops: &[Span],
     nested: bool,
     notes: &mut Notes,
@@ -256,40 +236,38 @@ fn walk_contribute(
     name: Span,
     value: &Expr,
 ) -> Result<(), Memory>
-    ensures { OnOk result (notes.new ≡ operand_walked scope.now.text.now scope.now.table.now part params.now loops.now value.now (contribute_walked scope.now.text.now scope.now.table.now part at nested name notes.old)) }
+    ensures { OnOk result (notes.new ≡ operand_walked scope.now.text.now scope.now.table.now part scope.now.params.now loops.now value.now (contribute_walked scope.now.text.now scope.now.table.now part at nested name notes.old)) }
 {
     note_contribution(scope, part, at, nested, name, notes)?;
-    walk_operand(scope, part, params, loops, notes, value)?;
+    walk_operand(scope, part, loops, notes, value)?;
     Ok(())
 }
 
 fn walk_values(
     scope: &Scope,
     part: PartAt,
-    params: &[Span],
     loops: &[Span],
     notes: &mut Notes,
     values: &Values,
 ) -> Result<(), Memory>
-    ensures { OnOk result (notes.new ≡ values_walked scope.now.text.now scope.now.table.now part params.now loops.now values.now notes.old) }
+    ensures { OnOk result (notes.new ≡ values_walked scope.now.text.now scope.now.table.now part scope.now.params.now loops.now values.now notes.old) }
 {
-    walk_operand(scope, part, params, loops, notes, &values.first)?;
-    walk_operands(scope, part, params, loops, notes, values.others.as_slice())?;
+    walk_operand(scope, part, loops, notes, &values.first)?;
+    walk_operands(scope, part, loops, notes, values.others.as_slice())?;
     Ok(())
 }
 
 fn walk_operands(
     scope: &Scope,
     part: PartAt,
-    params: &[Span],
     loops: &[Span],
     notes: &mut Notes,
     values: &[Expr],
 ) -> Result<(), Memory>
-    ensures { OnOk result (notes.new ≡ in_order (map (operand_walked scope.now.text.now scope.now.table.now part params.now loops.now) values.now) notes.old) }
+    ensures { OnOk result (notes.new ≡ in_order (map (operand_walked scope.now.text.now scope.now.table.now part scope.now.params.now loops.now) values.now) notes.old) }
 {
     for value in values {
-        walk_operand(scope, part, params, loops, notes, value)?;
+        walk_operand(scope, part, loops, notes, value)?;
     }
     Ok(())
 }
@@ -305,16 +283,15 @@ fn count_values(values: &Values) -> usize
 fn walk_target(
     scope: &Scope,
     part: usize,
-    params: &[Span],
     loops: &[Span],
     notes: &mut Notes,
     name: Span,
     indexed: bool,
 ) -> Result<(), Memory>
-    ensures { OnOk result (notes.new ≡ target_walked scope.now.text.now scope.now.table.now part params.now loops.now name indexed notes.old) }
+    ensures { OnOk result (notes.new ≡ target_walked scope.now.text.now scope.now.table.now part scope.now.params.now loops.now name indexed notes.old) }
 {
     let meaning = scope.meaning(name);
-    let local = scope.is_local(params, loops, name);
+    let local = scope.is_local(loops, name);
     notes.note(name_fault(name));
     write_name(part, meaning, local, name, indexed, notes)?;
     Ok(())
@@ -362,10 +339,10 @@ fn unwritable(local: bool, name: Span) -> Option<CheckFault>
 }
 
 #[tactic(auto, unfolding(job_rules::specs::Statements::loop_walked))]
-fn walk_loop(scope: &Scope, params: &[Span], loops: &[Span], notes: &mut Notes, name: Span)
-    ensures { notes.new ≡ loop_walked scope.now.text.now scope.now.table.now params.now loops.now name notes.old }
+fn walk_loop(scope: &Scope, loops: &[Span], notes: &mut Notes, name: Span)
+    ensures { notes.new ≡ loop_walked scope.now.text.now scope.now.table.now scope.now.params.now loops.now name notes.old }
 {
-    let taken = scope.meaning(name).is_some() || scope.is_local(params, loops, name);
+    let taken = scope.meaning(name).is_some() || scope.is_local(loops, name);
     notes.note(name_fault(name));
     notes.note(fault_if(taken, CheckFault::Twice { at: name.at }));
 }

@@ -62,7 +62,12 @@ fn walk_array(
 {
     match names.tables.get(number) {
         Some(table) => {
-            let scope = Scope { text, names, table };
+            let scope = Scope {
+                text,
+                names,
+                table,
+                params: &[],
+            };
             walk_with(alloc, &scope, number, array, notes)?;
         }
         None => {
@@ -71,6 +76,7 @@ fn walk_array(
                 text,
                 names,
                 table: &none,
+                params: &[],
             };
             walk_with(alloc, &scope, number, array, notes)?;
         }
@@ -108,7 +114,13 @@ fn walk_start(scope: &Scope, state: &StateDecl, notes: &mut Notes) -> Result<(),
     let site = Site::Start {
         sized: state.cells.is_some(),
     };
-    walk_value(scope, site, &[], &[], notes, &state.start)?;
+    let scope = Scope {
+        text: scope.text,
+        names: scope.names,
+        table: scope.table,
+        params: &[],
+    };
+    walk_value(&scope, site, &[], notes, &state.start)?;
     Ok(())
 }
 
@@ -201,8 +213,14 @@ fn walk_free_part(
 ) -> Result<(), Memory>
     ensures { OnOk result (notes.new ≡ free_part scope.now.text.now scope.now.names.now scope.now.table.now part block.now notes.old) }
 {
+    let scope = Scope {
+        text: scope.text,
+        names: scope.names,
+        table: scope.table,
+        params: &[],
+    };
     let mut loops = Vec::new(alloc);
-    walk_block(scope, part, &[], &mut loops, false, notes, block)?;
+    walk_block(&scope, part, &mut loops, false, notes, block)?;
     Ok(())
 }
 
@@ -235,8 +253,14 @@ fn walk_part_with(
 {
     walk_when(scope, at, part.at, params.len(), part.port, notes)?;
     walk_params(scope, params, notes);
+    let scope = Scope {
+        text: scope.text,
+        names: scope.names,
+        table: scope.table,
+        params,
+    };
     let mut loops = Vec::new(alloc);
-    walk_block(scope, at, params, &mut loops, false, notes, &part.block)?;
+    walk_block(&scope, at, &mut loops, false, notes, &part.block)?;
     Ok(())
 }
 

@@ -8,7 +8,7 @@ use job_rules::names::{Meaning, Names, bytes_at, local_named};
 use job_rules::tables::JobNames;
 use job_tree::token::Span;
 
-/// The names that are declared around the expressions and statements of an array.
+/// The names that are declared around an expression or a statement of an array.
 #[derive(Clone, Copy)]
 pub struct Scope<'a> {
     /// The text that names are places in.
@@ -17,6 +17,8 @@ pub struct Scope<'a> {
     pub names: &'a JobNames,
     /// The names of the array.
     pub table: &'a Names,
+    /// The parameters of the part.
+    pub params: &'a [Span],
 }
 
 impl<'a> Scope<'a> {
@@ -27,11 +29,11 @@ impl<'a> Scope<'a> {
         self.table.get(bytes_at(self.text, name))
     }
 
-    /// Whether a name is one of these parameters, or that of one of these loops.
-    pub(crate) fn is_local(&self, params: &[Span], loops: &[Span], name: Span) -> bool
-        ensures { result ≡ is_local self.now.text.now params.now loops.now name }
+    /// Whether a name is one of the parameters, or that of one of these loops.
+    pub(crate) fn is_local(&self, loops: &[Span], name: Span) -> bool
+        ensures { result ≡ is_local self.now.text.now self.now.params.now loops.now name }
     {
-        local_named(self.text, params, name).is_some()
+        local_named(self.text, self.params, name).is_some()
             || local_named(self.text, loops, name).is_some()
     }
 }

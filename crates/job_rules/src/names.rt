@@ -77,12 +77,7 @@ impl Names {
     /// Declares a name, where it wasn't declared before.
     ///
     /// `Memory`: an allocation was refused; all is as before.
-    pub fn declare(
-        &mut self,
-        alloc: Global,
-        name: &[u8],
-        meaning: Meaning,
-    ) -> Result<(), Memory>
+    pub fn declare(&mut self, alloc: Global, name: &[u8], meaning: Meaning) -> Result<(), Memory>
         ensures ok { OnOk result (self.new ≡ declare self.old name.now meaning) }
         ensures err { OnErr result (self.new ≡ self.old) }
     {

@@ -3,9 +3,9 @@
 ghost use Rattle.std.specs.Prelude.{◌≡◌, IfOk, map};
 ghost use Rattle.job_rules.specs.PlannedAnswers.{answer_planned, array_meant, cell_in, cell_written, element_in, element_or_none, index_written};
 
+use crate::numbers::{narrow32, number16};
 use crate::planning::lookups::{member, range_meant, range_or_none, state_meant};
 use crate::planning::members::plan_how;
-use crate::numbers::{narrow32, number16};
 use crate::tables::array_number;
 use chare_base::memory::Memory;
 use chare_base::plan::{Answer, Array, ElementId};

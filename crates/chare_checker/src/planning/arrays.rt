@@ -3,11 +3,11 @@
 ghost use Rattle.std.specs.Prelude.{◌≡◌, IfOk};
 ghost use Rattle.job_rules.specs.PlannedArrays.{array_planned, array_with, arrays_from, cols_planned, rows_planned, size_planned, state_planned, states_planned};
 
-use crate::planning::expressions::plan_expr;
-use crate::planning::lookups::Scope;
 use crate::numbers::narrow32;
+use crate::planning::expressions::plan_expr;
 use crate::planning::steps::plan_steps;
 use crate::tables::cells_written;
+use crate::walk::Scope;
 use chare_base::bytes::Name;
 use chare_base::memory::Memory;
 use chare_base::plan::{Array, State};

@@ -5,8 +5,9 @@ ghost use Rattle.job_rules.specs.PlannedExpressions.{add_op, all_of, any_of, ato
 ghost use Rattle.job_rules.specs.Names.{local_named};
 ghost use Rattle.job_rules.specs.PlannedNames.{range_or_none, state_range};
 
-use crate::planning::lookups::{Scope, range_or_none, state_range};
 use crate::numbers::{narrow8, narrow63};
+use crate::planning::lookups::{range_or_none, state_range};
+use crate::walk::Scope;
 use chare_base::expression::{AddOp, CompareOp, Expr, Factor, MulOp, Term};
 use chare_base::memory::Memory;
 use job_rules::names::local_named;

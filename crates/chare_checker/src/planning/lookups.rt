@@ -11,15 +11,6 @@ use job_rules::names::{Meaning, Names, bytes_at};
 use job_rules::tables::JobNames;
 use job_tree::token::Span;
 
-/// What names stand for within a part: the names of the job and of the part's array, and the part's parameters.
-#[derive(Clone, Copy)]
-pub(crate) struct Scope<'a> {
-    pub(crate) text: &'a [u8],
-    pub(crate) names: &'a JobNames,
-    pub(crate) table: &'a Names,
-    pub(crate) params: &'a [Span],
-}
-
 /// The cells of the state of this name, if it is a state's.
 #[tactic(auto, unfolding(job_rules::specs::PlannedNames::state_range))]
 pub(crate) fn state_range(text: &[u8], table: &Names, name: Span) -> Option<Range>

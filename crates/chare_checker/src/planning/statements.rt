@@ -9,11 +9,10 @@ ghost use Rattle.job_rules.specs.PlannedNames.{entry_meant, member, range_or_non
 ghost use Rattle.job_rules.specs.Numbers.{narrow8, signed64};
 ghost use Rattle.job_rules.specs.PlannedStatements.{assigned, block_planned, each_planned, other_planned, stmt_planned};
 
-use crate::planning::expressions::{plan_place, plan_value, plan_values};
-use crate::planning::lookups::{
-    Scope, entry_meant, member, range_or_none, reduction_meant, state_range,
-};
 use crate::numbers::{narrow8, signed64};
+use crate::planning::expressions::{plan_place, plan_value, plan_values};
+use crate::planning::lookups::{entry_meant, member, range_or_none, reduction_meant, state_range};
+use crate::walk::Scope;
 use chare_base::expression::Expr;
 use chare_base::memory::Memory;
 use chare_base::plan::Stmt;

@@ -3,8 +3,9 @@
 ghost use Rattle.std.specs.Prelude.{◌≡◌, ◌∷◌, [], IfOk, map};
 ghost use Rattle.job_rules.specs.PlannedSteps.{body_planned, free_part, part_planned, step_planned};
 
-use crate::planning::lookups::{Scope, port_meant};
+use crate::planning::lookups::port_meant;
 use crate::planning::statements::plan_block;
+use crate::walk::Scope;
 use chare_base::memory::Memory;
 use chare_base::message::Need;
 use chare_base::plan::{Part, Step};
