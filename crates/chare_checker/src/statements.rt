@@ -85,9 +85,7 @@ fn walk_stmt(
             other,
             ..
         } => walk_if(scope, part, loops, notes, test, block, other)?,
-        StmtDecl::For { name, block, .. } => {
-            walk_for(scope, part, loops, notes, *name, block)?;
-        }
+        StmtDecl::For { name, block, .. } => walk_for(scope, part, loops, notes, *name, block)?,
         StmtDecl::Send {
             at,
             array,
