@@ -9,7 +9,7 @@ use sqlite_items::Items;
 use std::alloc::Global;
 
 /// A use of a state in a part of a step.
-#[derive(Clone, Copy, Debug, PartialEq, Eq)]
+#[derive(Clone, Copy)]
 pub struct StateUse {
     /// The state's number in its array.
     pub state: usize,
@@ -24,7 +24,7 @@ pub struct StateUse {
 }
 
 /// A send, a contribution or a `when`: the number of its port among all ports of the job, and of its step.
-#[derive(Clone, Copy, Debug, PartialEq, Eq)]
+#[derive(Clone, Copy)]
 pub struct PortUse {
     pub port: usize,
     pub step: usize,

@@ -13,7 +13,7 @@ pub struct JobNames {
 }
 
 /// How many ports, entries and reductions were declared so far.
-#[derive(Clone, Copy, Debug, PartialEq, Eq)]
+#[derive(Clone, Copy)]
 pub struct Counts {
     pub ports: usize,
     pub entries: usize,

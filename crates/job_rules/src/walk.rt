@@ -1,7 +1,7 @@
 //! Where a walk over the tree is.
 
 /// Where an expression stands.
-#[derive(Clone, Copy, Debug, PartialEq, Eq)]
+#[derive(Clone, Copy)]
 pub enum Site {
     /// In the initial value of a state, which has a size or not.
     Start { sized: bool },
@@ -10,7 +10,7 @@ pub enum Site {
 }
 
 /// Which part of which step: the numbers of the array, of its step, and of the part in the step.
-#[derive(Clone, Copy, Debug, PartialEq, Eq)]
+#[derive(Clone, Copy)]
 pub struct PartAt {
     pub array: usize,
     pub step: usize,

@@ -4,21 +4,21 @@ ghost use Rattle.std.specs.Prelude.{◌≡◌};
 ghost use Rattle.job_tree.specs.Mark.{number_of};
 
 /// Where a name stands in the text: the place of its first byte, and how many bytes it has.
-#[derive(Clone, Copy, Debug, PartialEq, Eq)]
+#[derive(Clone, Copy)]
 pub struct Span {
     pub at: u32,
     pub len: u32,
 }
 
 /// A number of at most 9,223,372,036,854,775,807, and the place of its first digit.
-#[derive(Clone, Copy, Debug, PartialEq, Eq)]
+#[derive(Clone, Copy)]
 pub struct Num {
     pub at: u32,
     pub value: u64,
 }
 
 /// A reserved word or a symbol.
-#[derive(Clone, Copy, Debug, PartialEq, Eq)]
+#[derive(Clone, Copy)]
 pub enum Mark {
     Job,
     Iterate,
@@ -86,7 +86,7 @@ impl Mark {
 }
 
 /// What a token is.
-#[derive(Clone, Copy, Debug, PartialEq, Eq)]
+#[derive(Clone, Copy)]
 pub enum Kind {
     Name(Span),
     Number(Num),
@@ -100,7 +100,7 @@ pub enum Kind {
 }
 
 /// A token, and the place of its first byte. The last one of a text is `End`, `Bad` or `TooLarge`.
-#[derive(Clone, Copy, Debug, PartialEq, Eq)]
+#[derive(Clone, Copy)]
 pub struct Token {
     pub kind: Kind,
     pub at: u32,
@@ -114,7 +114,7 @@ pub struct Opened {
 }
 
 /// What stands at the front of a text, and how many bytes it has.
-#[derive(Clone, Copy, Debug, PartialEq, Eq)]
+#[derive(Clone, Copy)]
 pub enum Piece {
     /// A blank, or a comment up to its line's end.
     Blank(u32),
