@@ -9,8 +9,8 @@ use Rattle.fault_script.specs.Numbers.{capped, digit_value, number_from}
 same_digit : (base n m d : ℕ) → 1 ≤ base → capped n ≡ capped m → capped (n * base + d) ≡ capped (m * base + d)
 same_digit base n m d some same =
     elim (cases_lt n (2 ^ 64)) [
-      inl small ↦ ap (λ k. capped (k * base + d)) (let e : n ≡ m = omega arith in e)
-    | inr large ↦ large_digit large (grows n) (grows m)
+      | inl small ↦ ap (λ k. capped (k * base + d)) (let e : n ≡ m = omega arith in e)
+      | inr large ↦ large_digit large (grows n) (grows m)
     ]
   where
     grows : (k : ℕ) → k ≤ k * base

@@ -59,8 +59,8 @@ module _ (p : Plan) (nodes : ℕ) where
       ≡ then (cond t (cond (nat_lt (length kept) 64) (added_by number kept (fault_in p nodes line)) (Err (faults.Lines number))) (Ok kept)) (λ new. read_from p nodes (number + 1) new more)
   line_by_line number kept line more true h =
       fault_step number kept (nat_lt (length kept) 64) (fault_in p nodes line) (filter_map (wrong p nodes) (enumerate_from (length kept + 1) (fault_lines_from (number + 1) more)))
-          (filter_map (line_of p nodes) (fault_lines_from (number + 1) more)) (λ new. read_from p nodes (number + 1) new more)
-          (λ fault. sym (one_more number kept fault (fault_lines_from (number + 1) more)) ∙ h (kept ++ one number fault))
+      (filter_map (line_of p nodes) (fault_lines_from (number + 1) more)) (λ new. read_from p nodes (number + 1) new more)
+      (λ fault. sym (one_more number kept fault (fault_lines_from (number + 1) more)) ∙ h (kept ++ one number fault))
   line_by_line number kept line more false h = h kept
 
   same_rest : (number : ℕ) (kept : List FaultLine) (ls : List (List ℕ)) → rest_of kept (fault_lines_from number ls) ≡ read_from p nodes number kept ls

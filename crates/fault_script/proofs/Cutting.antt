@@ -17,7 +17,7 @@ parts byte text = slice_split (λ b. b == byte) text
 parts_by : (byte : ℕ) (text : List ℕ) (t : Bool) → nat_lt (position_or_len (λ b. b == byte) text) (length text) ≡ t →
     parts byte text
     ≡ option_map_or (λ at. take at text) (cond t (Some (position_or_len (λ b. b == byte) text)) None) text
-      ∷ option_map_or (parts byte) (option_map (λ at. drop (at + 1) text) (cond t (Some (position_or_len (λ b. b == byte) text)) None)) []
+    ∷ option_map_or (parts byte) (option_map (λ at. drop (at + 1) text) (cond t (Some (position_or_len (λ b. b == byte) text)) None)) []
 parts_by byte text true h = slice_split_first (λ b. b == byte) text 0 (ltb-true _ _ h)
 parts_by byte text false h = slice_split_none (λ b. b == byte) text (λ k d below. fails_before_first (λ b. b == byte) text k d (let past : length text ≤ position_or_len (λ b. b == byte) text = ltb-false _ _ h in omega arith))
 
@@ -74,7 +74,7 @@ unfolding words
 word_first b more clear =
     let cut : parts 32 (b ∷ more) ≡ before 32 (b ∷ more) ∷ option_map_or (parts 32) (behind 32 (b ∷ more)) [] = parts_of 32 (b ∷ more) in
     let some : is_some_word (before 32 (b ∷ more)) ≡ true =
-        begun b (parts 32 more) (before 32 (b ∷ more)) (option_map_or (parts 32) (behind 32 (b ∷ more)) []) (sym (slice_split-cons_no (λ c. c == 32) b more clear) ∙ cut) in
+    begun b (parts 32 more) (before 32 (b ∷ more)) (option_map_or (parts 32) (behind 32 (b ∷ more)) []) (sym (slice_split-cons_no (λ c. c == 32) b more clear) ∙ cut) in
     ap (filter is_some_word) cut
     ∙ ap (λ t. cond t (before 32 (b ∷ more) ∷ filter is_some_word (option_map_or (parts 32) (behind 32 (b ∷ more)) [])) (filter is_some_word (option_map_or (parts 32) (behind 32 (b ∷ more)) []))) some
     ∙ ap (λ ws. before 32 (b ∷ more) ∷ ws) (kept (behind 32 (b ∷ more)))

@@ -41,7 +41,7 @@ placed_in n number zero (b ∷ more) a e h is from below =
     ap (λ t. (cond t (record { array = number; index = e - b.first }) (place_in (suc number) more e)).array) here ∙ (let q : number ≡ number + 0 = omega arith in q)
 placed_in n number (suc k) (b ∷ more) a e h is from below =
     let past : nat_lt e (b.first + size_of b) ≡ false =
-        beyond n b.first (size_of b) a.first e (eqb-true b.first n (and_parts _ _ h).0) (numbered_at (n + size_of b) k more a (and_parts _ _ h).1 is).0 from in
+    beyond n b.first (size_of b) a.first e (eqb-true b.first n (and_parts _ _ h).0) (numbered_at (n + size_of b) k more a (and_parts _ _ h).1 is).0 from in
     ap (λ t. (cond t (record { array = number; index = e - b.first }) (place_in (suc number) more e)).array) past
     ∙ placed_in (n + size_of b) (suc number) k more a e (and_parts _ _ h).1 is from below ∙ next number k
 
@@ -61,8 +61,7 @@ module _ (p : Plan) (nodes : ℕ) where
       let from : a.first ≤ a.first + row f.element * a.cols + col f.element = omega arith in
       let below : a.first + row f.element * a.cols + col f.element < a.first + size_of a = omega (arith, index) in
       let is : array_of p (a.first + row f.element * a.cols + col f.element) ≡ Some a = array_is p a in_plan (a.first + row f.element * a.cols + col f.element) from below in
-      let cells : cells_of p (a.first + row f.element * a.cols + col f.element) ≡ cells_in a.states = ap cells_in (states_are p (a.first + row f.element * a.cols + col f.element) a is) in
-      (
+      let cells : cells_of p (a.first + row f.element * a.cols + col f.element) ≡ cells_in a.states = ap cells_in (states_are p (a.first + row f.element * a.cols + col f.element) a is) in (
         all.replica,
         omega (arith, below, elements_within p a in_plan),
         subst (λ n. s.at + place f.cell < n) (sym cells) (omega (arith, all.place, cells_within p a in_plan f.cell.state s called)),

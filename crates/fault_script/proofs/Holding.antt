@@ -25,15 +25,15 @@ use Rattle.fault_script.proofs.Placed.{ArrayIn, array_in, fits, cells_small}
 same_below : (n bound : ℕ) → bound ≤ 2 ^ 64 → nat_lt (capped n) bound ≡ nat_lt n bound
 same_below n bound few =
     elim (cases_lt n bound) [
-      inl below ↦ lt-ltb (capped n) bound (omega arith) ∙ sym (lt-ltb n bound below)
-    | inr past ↦ le-ltb (capped n) bound (omega arith) ∙ sym (le-ltb n bound past)
+      | inl below ↦ lt-ltb (capped n) bound (omega arith) ∙ sym (lt-ltb n bound below)
+      | inr past ↦ le-ltb (capped n) bound (omega arith) ∙ sym (le-ltb n bound past)
     ]
 
 same_above : (n : ℕ) → nat_lt 0 (capped n) ≡ nat_lt 0 n
 same_above n =
     elim (cases_lt 0 n) [
-      inl some ↦ lt-ltb 0 (capped n) (omega arith) ∙ sym (lt-ltb 0 n some)
-    | inr none ↦ le-ltb 0 (capped n) (omega arith) ∙ sym (le-ltb 0 n none)
+      | inl some ↦ lt-ltb 0 (capped n) (omega arith) ∙ sym (lt-ltb 0 n some)
+      | inr none ↦ le-ltb 0 (capped n) (omega arith) ∙ sym (le-ltb 0 n none)
     ]
 
 same_number : (n : ℕ) → n < 2 ^ 64 → capped n ≡ n

@@ -95,14 +95,18 @@ fn flip_fault(flip: &FlipForm<'_>, plan: &Plan) -> Result<Fault, LineFault>
 fn array_called<'a>(name: &[u8], arrays: &'a [Array]) -> Option<&'a Array>
     ensures { option_map (λ a. a.now) result ≡ array_called name.now arrays.now }
 {
-    arrays.iter().find(|array| same(name, array.name.as_slice()))
+    arrays
+        .iter()
+        .find(|array| same(name, array.name.as_slice()))
 }
 
 // The state of this name.
 fn state_called<'a>(name: &[u8], states: &'a [State]) -> Option<&'a State>
     ensures { option_map (λ s. s.now) result ≡ state_called name.now states.now }
 {
-    states.iter().find(|state| same(name, state.name.as_slice()))
+    states
+        .iter()
+        .find(|state| same(name, state.name.as_slice()))
 }
 
 // Whether a flip names its element and its cell as the array and the state want them named.

@@ -24,8 +24,8 @@ pub returns-in_err-add_line : goal.returns-in_err-add_line
 returns-in_err-add_line c =
     let p = err_from_is_err_and c.from_residual-in_err-add_line.result c.from_residual-in_err-add_line.ensures.1 in
     rw (p.1, p.2)
-        (read_fault c.args.plan.now c.args.nodes c.lines.number c.lines.lines.items c.add_line.new.lines.items c.in-Some.line.now (lines c.lines.rest.now) (lines c.in-Some.more.now)
-        (script_of c.args.plan.now c.args.nodes c.args.bytes.now) c.in_err-add_line.field-0.0 c.in-Some.ensures.exact c.in_err-add_line.ensures.exact c.lines.invariant.told)
+    (read_fault c.args.plan.now c.args.nodes c.lines.number c.lines.lines.items c.add_line.new.lines.items c.in-Some.line.now (lines c.lines.rest.now) (lines c.in-Some.more.now)
+    (script_of c.args.plan.now c.args.nodes c.args.bytes.now) c.in_err-add_line.field-0.0 c.in-Some.ensures.exact c.in_err-add_line.ensures.exact c.lines.invariant.told)
 
 pub returns : goal.returns
 returns c =

@@ -12,5 +12,5 @@ returns-in-Some-clause-exact c =
 pub returns-in-None-clause-exact : goal.returns-in-None-clause-exact
 returns-in-None-clause-exact c =
     line_last c.args.text.now c.cut.result.0.now c.cut.ensures.before (sym c.cut.ensures.behind ∙ ap (option_map (λ (x : Bor (List ℕ)). x.now)) c.in-None.is)
-        (sym c.is_empty.ensures ∙ c.if-is_empty.false)
+    (sym c.is_empty.ensures ∙ c.if-is_empty.false)
     ∙ ap (λ r. c.cut.result.0.now ∷ lines r) (sym c.as_slice.ensures)
