@@ -5,11 +5,10 @@
 
 ghost use Rattle.std.specs.Prelude.{◌≡◌, true, false, length};
 ghost use Rattle.std.specs.List.{list_any};
-ghost use Rattle.job_rules.specs.Overlap.{clashes, overlap_found, use_fault, used_before, written_by};
-ghost use Rattle.chare_checker.specs.FirstUses.{Tells, all_marked, counts, marked};
+ghost use Rattle.chare_checker.specs.Overlap.{Tells, all_marked, clashes, counts, marked, overlap_found, use_fault, used_before, written_by};
 
-use job_rules::fault::{CheckFault, fault_if, sooner};
-use job_rules::notes::StateUse;
+use crate::fault::{CheckFault, fault_if, sooner};
+use crate::notes::StateUse;
 
 // How many uses are few.
 const FEW: usize = 64;
@@ -71,7 +70,7 @@ fn counts(state_use: StateUse, writes: bool) -> bool
     !writes || state_use.written
 }
 
-#[tactic(auto, unfolding(job_rules::specs::Overlap::overlap_found))]
+#[tactic(auto, unfolding(crate::specs::Overlap::overlap_found))]
 fn faults(
     uses: &[StateUse],
     used: &[usize],

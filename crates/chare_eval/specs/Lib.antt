@@ -6,5 +6,4 @@ pub mod Loops
 pub mod Fold
 pub mod Inside
 pub mod Laws
-pub mod Later
 pub mod Tables

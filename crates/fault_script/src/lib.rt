@@ -7,11 +7,4 @@
 #![tactic(auto)]
 
 pub mod fault;
-mod form;
-pub mod laws;
-pub mod meaning;
-pub mod name;
-mod number;
-pub mod reading;
 pub mod script;
-mod text;

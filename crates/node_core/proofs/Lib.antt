@@ -5,8 +5,6 @@ pub mod Gathering
 pub mod Totalling
 pub mod Sending
 pub mod Keeping
-pub mod Rebased
-pub mod Obeying
 pub mod Hearing
 pub mod Starting
 pub mod Counting
@@ -30,7 +28,5 @@ pub mod Costing
 pub mod Weighing
 pub mod Lowering
 pub mod Firsts
-pub mod Loads
-pub mod Loaded
 pub mod Logs
 pub mod Sharers

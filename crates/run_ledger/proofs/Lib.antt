@@ -2,10 +2,11 @@ mod Bits
 mod Counts
 mod Checkpoints
 mod Bare
+mod Folds
 mod Lineages
 mod Spending
 mod Counting
-pub mod Allowed
+mod Allowed
 mod Following
 mod OneReplica
 mod Right

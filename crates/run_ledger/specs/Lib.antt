@@ -4,5 +4,6 @@ pub mod Ledgers
 pub mod Conditions
 pub mod Lawful
 pub mod Checkpoints
+pub mod Later
 pub mod Laws
 pub mod Apart

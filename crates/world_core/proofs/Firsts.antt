@@ -1,69 +1,41 @@
 -- A slot hears its first letter.
-use Rattle.std.proofs.Common.{◌≡◌, ℕ, zero, suc, ◌≤◌, ◌<◌, Bool, true, false, cond, List, [], ◌∷◌, length, get_or, refl, ap, sym, ◌∙◌, arith, Option, Some, None}
-use Rattle.std.specs.Prelude.{◌==◌, ◌&&◌, slice_get, slice_set}
+use Rattle.std.proofs.Common.{◌≡◌, ℕ, ◌<◌, true, false, List, [], ◌∷◌, length, get_or, refl, ap, sym, ◌∙◌, Option, Some, None}
+use Rattle.std.specs.Prelude.{slice_get}
 use Rattle.std.proofs.lemmas.Option.{slice_get_read}
 use Rattle.chare_base.specs.declared.slots.SlotId.{SlotId}
 use Rattle.letter_post.specs.declared.letter.Letter.{Letter}
-use Rattle.node_core.specs.Nodes.{node_heard}
-use Rattle.world_core.specs.Steps.{Acted, acted, can_hear, has_letter, heard_first}
-use Rattle.world_core.specs.Worlds.{Posts, Setting, SlotState, WorldState, heard_by, heard_in, named, number_of, posted, slot_at}
+use Rattle.world_core.specs.Steps.{Acted, can_hear, has_letter, heard_first}
+use Rattle.world_core.specs.Worlds.{Posts, Setting, SlotState, WorldState, heard_by, heard_in, posted, slot_at, with_slot}
 
-none_at : (xs : List SlotState) (i : ℕ) → length xs ≤ i → slice_get xs i ≡ None
-none_at [] i far = refl
-none_at (x ∷ xs) zero far = absurd (omega (arith, far))
-none_at (x ∷ xs) (suc i) far = none_at xs i (omega (arith, far))
+-- the slot that was found by its name, read at its place
+pub found_at : (m n i : ℕ) (seen all : List SlotState) (slot : SlotId) (x : SlotState) → m ≡ n → seen ≡ all → slot_at m seen slot ≡ slice_get seen i → i < length seen → x ≡ get_or all i x →
+    slot_at n all slot ≡ Some x
+found_at m n i seen all slot x same whole found within read =
+    ap (λ k. slot_at k all slot) (sym same) ∙ ap (λ xs. slot_at m xs slot) (sym whole) ∙ found ∙ ap (λ xs. slice_get xs i) whole
+    ∙ slice_get_read all (length seen) i x (ap length whole) within read
 
--- what is read at a place
-pub read_at : (all : List SlotState) (len i n : ℕ) (x : SlotState) → len ≡ length all → i < len → i ≡ n → x ≡ get_or all i x → slice_get all n ≡ Some x
-read_at all len i n x whole below at is = ap (λ k. slice_get all k) (sym at) ∙ slice_get_read all len i x whole below is
-
-pub one_there : (all : List SlotState) (n : ℕ) (x y : SlotState) → slice_get all n ≡ Some x → slice_get all n ≡ Some y → x ≡ y
-one_there all n x y first second = let same : Some x ≡ Some y = sym first ∙ second in cc
-
--- this slot has that name
-abbrev pub is_named : SlotId → SlotState → Bool
-is_named slot x = x.node.slot.replica == slot.replica && x.node.slot.node == slot.node
+-- what is there once
+pub one_there : (n : ℕ) (all : List SlotState) (slot : SlotId) (x y : SlotState) → slot_at n all slot ≡ Some x → slot_at n all slot ≡ Some y → x ≡ y
+one_there n all slot x y first second = let same : Some x ≡ Some y = sym first ∙ second in cc
 
 module _ (s : Setting) (slot : SlotId) (w : WorldState) where
-  -- there is no slot of that number
-  pub heard_beyond : (all : List SlotState) → length all ≤ number_of s.nodes slot → w ≡ heard_by s slot w (slot_at s.nodes all slot)
-  heard_beyond all far = ap (λ o. heard_by s slot w (named slot o)) (sym (none_at all (number_of s.nodes slot) far))
-
-  -- what becomes of a slot's event is told at the slot
-  at_slot : (all : List SlotState) (x : SlotState) (b : Bool) → slice_get all (number_of s.nodes slot) ≡ Some x → is_named slot x ≡ b →
-      heard_by s slot w (cond b (Some x) None) ≡ heard_by s slot w (slot_at s.nodes all slot)
-  at_slot all x b there name = ap (λ t. heard_by s slot w (cond t (Some x) None)) (sym name) ∙ ap (λ o. heard_by s slot w (named slot o)) (sym there)
-
-  -- the slot of that number has another name
-  pub heard_other : (all : List SlotState) (x : SlotState) → slice_get all (number_of s.nodes slot) ≡ Some x → is_named slot x ≡ false →
-      w ≡ heard_by s slot w (slot_at s.nodes all slot)
-  heard_other all x there name = at_slot all x false there name
-
-  -- it has no letter
-  pub heard_nothing : (all : List SlotState) (x : SlotState) → slice_get all (number_of s.nodes slot) ≡ Some x → is_named slot x ≡ true → can_hear (Some x) ≡ false →
-      w ≡ heard_by s slot w (slot_at s.nodes all slot)
-  heard_nothing all x there name none = by x.box none ∙ at_slot all x true there name
+  pub heard_nothing : (x : SlotState) → can_hear (Some x) ≡ false → w ≡ heard_by s slot w (Some x)
+  heard_nothing x none = by x.box none
     where
       by : (box : List Letter) → has_letter box ≡ false → w ≡ heard_in s slot w x.node box
       by [] none = refl
       by (letter ∷ more) none = absurd cc
 
-  -- it has one
-  pub heard_one : (all : List SlotState) (x : SlotState) (a : Acted) (after : Posts) → slice_get all (number_of s.nodes slot) ≡ Some x → is_named slot x ≡ true → can_hear (Some x) ≡ true →
-      a ≡ heard_first s x x.box → w.posts.slots ≡ all → after ≡ posted s.nodes a.out (record { slots = slice_set all (number_of s.nodes slot) a.slot; desk = w.posts.desk }) →
-      ◌≡◌ {A = WorldState} (record { posts = after; conductor = w.conductor; over = w.over }) (heard_by s slot w (slot_at s.nodes all slot))
-  heard_one all x a after there name some is same posts = by x.box some is ∙ at_slot all x true there name
+  -- the slots with this one, and its letters posted
+  abbrev pub after_acted : Acted → Posts
+  after_acted a = posted s.nodes a.out (record { slots = with_slot s.nodes w.posts.slots slot a.slot; desk = w.posts.desk })
+
+  abbrev pub with_posts : Posts → WorldState
+  with_posts b = record { posts = b; conductor = w.conductor; over = w.over }
+
+  pub heard_one : (x : SlotState) (a : Acted) (after : Posts) → can_hear (Some x) ≡ true → a ≡ heard_first s x x.box → after ≡ after_acted a → with_posts after ≡ heard_by s slot w (Some x)
+  heard_one x a after some is posts = by x.box some is
     where
-      with : List SlotState → Acted → WorldState
-      with slots b = record {
-        posts = posted s.nodes b.out (record { slots = slice_set slots (number_of s.nodes slot) b.slot; desk = w.posts.desk });
-        conductor = w.conductor;
-        over = w.over;
-      }
-
-      whole : Posts → WorldState
-      whole b = record { posts = b; conductor = w.conductor; over = w.over }
-
-      by : (box : List Letter) → has_letter box ≡ true → a ≡ heard_first s x box → whole after ≡ heard_in s slot w x.node box
+      by : (box : List Letter) → has_letter box ≡ true → a ≡ heard_first s x box → with_posts after ≡ heard_in s slot w x.node box
       by [] some is = absurd cc
-      by (letter ∷ more) some is = ap whole posts ∙ ap (λ xs. with xs a) (sym same) ∙ ap (with w.posts.slots) is
+      by (letter ∷ more) some is = ap with_posts posts ∙ ap (λ b. with_posts (after_acted b)) is

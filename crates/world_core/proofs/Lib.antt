@@ -1,4 +1,6 @@
 pub mod Ables
+pub mod Prefixes
+pub mod Busy
 pub mod Lists
 pub mod Caps
 pub mod Steady

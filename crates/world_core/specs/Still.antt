@@ -80,7 +80,7 @@ FromSecond s (letters.Resume stamp) = Unit {0}
 FromSecond s (letters.Died stamp slot line) = Unit {0}
 FromSecond s letters.Stop = Unit {0}
 
--- a piece or verdict is of the last iteration, and a piece is replica 1's
+-- a piece or verdict is of the last iteration
 pub record IsLast (s : Setting) (letter : Letter) : Type 0 where
   pub at : IsAt s.plan.iterations letter
   pub second : FromSecond s letter
@@ -158,7 +158,7 @@ EveryScheduleEnds = (s : Setting) (chooser : Chooser) (turns : ℕ) → s.script
 abbrev pub StartIsWithin : Type 0
 StartIsWithin = (s : Setting) → IsPlaced s → world_left s (opening_world s) ≤ turns_bound s.plan 0 s.nodes
 
--- which has 64 bits, where there are no more nodes than elements
+-- which has 64 bits, where each node has an element
 abbrev pub BoundIsSmall : Type 0
 BoundIsSmall = (p : Plan) (nodes : ℕ) → nodes ≤ elements p → turns_bound p 0 nodes ≤ 2 ^ 64 - 1
 

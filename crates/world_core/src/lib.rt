@@ -14,14 +14,12 @@
 #![tactic(auto)]
 
 mod able;
-mod conducting;
 pub mod doing;
 pub mod drill;
 pub mod event;
 pub mod fault;
 mod inbox;
 pub mod laws;
-mod moves;
 mod posts;
 mod slot;
 mod turns;

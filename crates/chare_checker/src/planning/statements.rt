@@ -3,23 +3,24 @@
 ghost use Rattle.std.specs.Prelude.{◌≡◌, ◌++◌, ◌∷◌, [], IfOk, OnOk, length, map};
 ghost use Rattle.std.specs.Option.{option_map};
 ghost use Rattle.chare_base.specs.declared.plan.Stmt.TheVariants as stmts;
-ghost use Rattle.job_rules.specs.Names.{bytes_at, lookup};
-ghost use Rattle.job_rules.specs.PlannedExpressions.{place_planned, value_planned, values_planned};
-ghost use Rattle.job_rules.specs.PlannedNames.{entry_meant, member, range_or_none, reduction_meant, state_range};
-ghost use Rattle.job_rules.specs.Numbers.{narrow8, signed64};
-ghost use Rattle.job_rules.specs.PlannedStatements.{assigned, block_planned, each_planned, other_planned, stmt_planned};
+ghost use Rattle.chare_checker.specs.Names.{bytes_at, lookup};
+ghost use Rattle.chare_checker.specs.PlannedExpressions.{place_planned, value_planned, values_planned};
+ghost use Rattle.chare_checker.specs.PlannedNames.{entry_meant, member, range_or_none, reduction_meant, state_range};
+ghost use Rattle.chare_checker.specs.PlannedNumbers.{narrow8, signed64};
+ghost use Rattle.chare_checker.specs.PlannedStatements.{assigned, block_planned, each_planned, other_planned, stmt_planned};
 
-use crate::numbers::{narrow8, signed64};
+use crate::names::bytes_at;
 use crate::planning::expressions::{plan_place, plan_value, plan_values};
-use crate::planning::lookups::{entry_meant, member, range_or_none, reduction_meant, state_range};
-use crate::walk::Scope;
+use crate::planning::lookups::{
+    Scope, entry_meant, member, range_or_none, reduction_meant, state_range,
+};
+use crate::planning::numbers::{narrow8, signed64};
 use chare_base::expression::Expr;
 use chare_base::memory::Memory;
 use chare_base::plan::Stmt;
 use chare_base::range::Range;
-use job_rules::names::bytes_at;
-use job_tree::token::Span;
-use job_tree::tree::{self, Block, SignedNum, StmtDecl, Values};
+use chare_syntax::token::Span;
+use chare_syntax::tree::{self, Block, SignedNum, StmtDecl, Values};
 use sqlite_items::Items;
 use std::alloc::Global;
 
@@ -75,7 +76,12 @@ fn plan_stmt(
             block,
             other,
             ..
-        } => plan_if(alloc, scope, loops, test, block, other),
+        } => {
+            let test = plan_value(alloc, scope, loops, test)?;
+            let yes = plan_block(alloc, scope, loops, block)?;
+            let no = plan_other(alloc, scope, loops, other)?;
+            Ok(Stmt::If { test, yes, no })
+        }
         StmtDecl::For {
             name,
             low,
@@ -93,24 +99,6 @@ fn plan_stmt(
             plan_contribute(alloc, scope, loops, *name, value)
         }
     }
-}
-
-#[cycle(statements)]
-fn plan_if(
-    alloc: Global,
-    scope: &Scope<'_>,
-    loops: &mut Vec<Span>,
-    test: &tree::Expr,
-    block: &Block,
-    other: &Option<Block>,
-) -> Result<Stmt, Memory>
-    ensures exact { IfOk result (λ planned. planned ≡ stmts.If (value_planned scope.now.text.now scope.now.table.now scope.now.params.now loops.old.items test.now) (block_planned scope.now.text.now scope.now.names.now scope.now.table.now scope.now.params.now block.now loops.old.items) (other_planned (option_map (block_planned scope.now.text.now scope.now.names.now scope.now.table.now scope.now.params.now) other.now) loops.old.items)) }
-    ensures loops { OnOk result (loops.new.items ≡ loops.old.items) }
-{
-    let test = plan_value(alloc, scope, loops, test)?;
-    let yes = plan_block(alloc, scope, loops, block)?;
-    let no = plan_other(alloc, scope, loops, other)?;
-    Ok(Stmt::If { test, yes, no })
 }
 
 // The plan of what stands behind `else`, empty where nothing does.

@@ -8,4 +8,4 @@ pub loop-seat-preserved : goal.loop-seat-preserved
 loop-seat-preserved c =
     let there : c.loop-seat.seat < length (objects_of c.args.node.now.body) = omega (arith, c.loop-seat-test.true, c.count-seat-end.ensures) in
     let can = c.can_run_seat.ensures ∙ ap (λ k. can_run_by c.args.plan.now k (slice_get (objects_of c.args.node.now.body) c.loop-seat.seat)) c.iterations.ensures.exact in
-    next_seat c.args.plan.now c.args.node.now c.loop-seat.able.items c.push.new.self.items c.loop-seat.seat c.can_run_seat.result there c.loop-seat.invariant can c.in_ok-push.ensures.items
+    next_seat c.args.plan.now c.args.node.now c.loop-seat.able c.push.new.self c.loop-seat.seat c.can_run_seat.result there c.loop-seat.invariant can c.in_ok-push.ensures

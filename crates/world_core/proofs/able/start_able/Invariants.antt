@@ -5,4 +5,4 @@ use Rattle.world_core.specs.Worlds.{ables}
 use Rattle.world_core.proofs.able.start_able.Given as goal
 
 abbrev pub invariant-loop-seat : goal.invariant-loop-seat
-invariant-loop-seat l = l.able.items ++ map (can_run l.fn.plan l.fn.plan.iterations) (drop l.seat (objects_of l.fn.node.body)) ≡ ables l.fn.plan l.fn.node
+invariant-loop-seat l = l.able ++ map (can_run l.fn.plan l.fn.plan.iterations) (drop l.seat (objects_of l.fn.node.body)) ≡ ables l.fn.plan l.fn.node
