@@ -3,6 +3,7 @@ pub mod Computing
 pub mod Earlier
 pub mod Fitting
 pub mod Frames
+pub mod Later
 pub mod Mail
 pub mod Order
 pub mod Scenes

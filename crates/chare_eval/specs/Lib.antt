@@ -6,4 +6,5 @@ pub mod Loops
 pub mod Fold
 pub mod Inside
 pub mod Laws
+pub mod Later
 pub mod Tables

@@ -2,6 +2,7 @@
 //! fact from there on.
 
 ghost use Rattle.chare_eval.specs.Laws.{FoldIsShaped, FoldsFit, SlipsAreNoted, EarlierFlipsDecide, StrikesAreLocal, StepsFollow};
+ghost use Rattle.chare_eval.specs.Later.{LaterFlipsDecide, LaterFlipsDecideInside};
 ghost use Rattle.chare_eval.specs.Laws.{PartsRunInAnyOrder, TotalsAreTrue, StepsSend};
 
 /// The states of every fold, with or without flips, are one for each element of the plan, each with as many cells as
@@ -26,6 +27,14 @@ pub fn slips_are_noted()
 /// can be dropped or added without a change of the states up to its own iteration.
 pub fn earlier_flips_decide()
     ensures { EarlierFlipsDecide }
+{}
+
+/// From equal states on, equal flips of that iteration and later lead to equal states, and to equal cells, messages and
+/// contributions inside each iteration. So a replica may go over to other flips of earlier iterations where they made
+/// the same states.
+pub fn later_flips_decide()
+    ensures states { LaterFlipsDecide }
+    ensures inside { LaterFlipsDecideInside }
 {}
 
 /// An element begins an iteration with its cells as they are after the iterations before it, struck by its own flips

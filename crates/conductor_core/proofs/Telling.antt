@@ -1,244 +1,338 @@
--- The conductor tells the definition.
-use Rattle.std.proofs.Common.{◌≡◌, ◌≢◌, ℕ, zero, suc, ◌<◌, Bool, true, false, cond, List, [], ◌∷◌, ◌++◌, length, refl, ap, sym, ◌∙◌, arith, subst, Option, Some, None, map}
-use Rattle.std.specs.Prelude.{◌==◌, ◌&&◌, is_none, nat_lt, slice_index_or, slice_set, IsSome}
-use Rattle.std.specs.List.{AllByRecursion, list_all}
-use Rattle.std.proofs.lemmas.Bool.{eqb-true, ltb-true}
-use Rattle.std.proofs.lemmas.Bool.Decides.{Decides-eqb}
-use Rattle.std.proofs.lemmas.List.{get_or-set_same, get_or-set_other, length-append, length-set}
-use Rattle.chare_base.specs.declared.cells.Cells.{Cells}
+-- What answers make of the conductor, and what it leaves.
+use Rattle.std.proofs.Common.{◌≡◌, ℕ, zero, suc, ◌+◌, ◌≤◌, Bool, true, false, cond, List, length, refl, ap, sym, ◌∙◌, arith, subst, Option, Some, None}
+use Rattle.std.specs.Prelude.{◌==◌, ◌&&◌, is_some, nat_lt, slice_set}
+use Rattle.std.specs.List.{list_all, list_any}
+use Rattle.std.proofs.lemmas.Bool.{ltb-true}
+use Rattle.std.proofs.lemmas.List.{length-replicate, length-set}
+use Rattle.chare_base.specs.declared.options.Options.{Options}
+use Rattle.chare_base.specs.declared.plan.ElementId.{ElementId}
 use Rattle.chare_base.specs.declared.plan.Plan.{Plan}
+use Rattle.chare_base.specs.declared.slots.SlotId.{SlotId}
 use Rattle.chare_base.specs.Elements.{elements}
-use Rattle.chare_base.specs.Placing.{Covers, members}
-use Rattle.chare_eval.specs.Fold.{fold}
+use Rattle.chare_base.specs.Placing.{Covers}
 use Rattle.fault_script.specs.declared.fault.Fault.{Fault}
-use Rattle.pup_state.specs.declared.compare.Verdict.{Verdict}
-use Rattle.pup_state.specs.declared.compare.Verdict.TheVariants as verdicts
-use Rattle.pup_state.specs.declared.piece.Piece.{Piece}
-use Rattle.buddy_compare.specs.Laws.{EqualExactly}
-use Rattle.run_ledger.specs.declared.record.Record.TheVariants.{Accept, Done}
-use Rattle.letter_post.specs.declared.letter.BoxId.TheVariants as boxes
+use Rattle.run_ledger.specs.declared.record.Record.{Record}
+use Rattle.run_ledger.specs.declared.record.Record.TheVariants.{Accept, Differ, Done}
+use Rattle.run_ledger.specs.Conditions.{due, unlawful}
+use Rattle.run_ledger.specs.Lawful.{EndsWith, Steps}
+use Rattle.run_ledger.specs.Ledgers.{LedgerState, opening_ledger}
+use Rattle.checkpoint_store.specs.Assembled.{assembled}
+use Rattle.letter_post.specs.declared.letter.Letter.{Letter}
 use Rattle.letter_post.specs.declared.letter.Letter.TheVariants as letters
-use Rattle.letter_post.specs.declared.letter.Sent.{Sent}
-use Rattle.letter_post.specs.declared.stamp.Stamp.{Stamp}
-use Rattle.letter_post.specs.Stamps.{lines_of, same_stamp}
-use Rattle.letter_post.specs.Truth.{Holds, Says, node_records, node_verdict}
-use Rattle.checkpoint_store.specs.Assembled.{assembled, bytes_of, rest_at}
-use Rattle.checkpoint_store.specs.Laws.{PiecesMakeTheCheckpoint}
-use Rattle.checkpoint_store.specs.Marks.{mark_of}
-use Rattle.conductor_core.specs.Conductors.{ConductorState, Heard, IsOf, conductor_heard, counts, ended_with, forgotten, is_equal, no_pieces, settled, silent, start_conductor, stops, stops_to, unheard, verdict_heard, with_verdict}
-use Rattle.conductor_core.specs.Tells.{EqualLinesAgree, Going, HearsTell, IsKept, StartsTell, Tells, TellsOn, last_of, verdict_at}
+use Rattle.iteration_agree.specs.declared.round.Taking.{Taking}
+use Rattle.iteration_agree.specs.declared.round.Taking.TheVariants as takings
+use Rattle.iteration_agree.specs.Cuts.{slot_place}
+use Rattle.conductor_core.specs.declared.ending.Outcome.{Outcome}
+use Rattle.conductor_core.specs.declared.ending.Outcome.TheVariants as outcomes
+use Rattle.conductor_core.specs.declared.wants.CutAnswer.{CutAnswer}
+use Rattle.conductor_core.specs.declared.wants.CutAnswer.TheVariants as answers
+use Rattle.conductor_core.specs.declared.wants.CutMove.{CutMove}
+use Rattle.conductor_core.specs.declared.wants.CutMove.TheVariants as moves
+use Rattle.conductor_core.specs.declared.wants.Phase.{Phase}
+use Rattle.conductor_core.specs.declared.wants.Phase.TheVariants as phases
+use Rattle.conductor_core.specs.Conductors.{ConductorState, Heard, accepted_by, agreed_on, conductor_did, conductor_heard, counts, differed_by, finished_by, gone_on, move_in, moved, nodes_of, quieted, settled_by, settled_in, silent, wanted, with_mark, with_note, with_record, with_sight, with_verdict}
+use Rattle.conductor_core.specs.Endings.{IsLast, marks_from}
+use Rattle.conductor_core.specs.Moves.{first_unnoted, gather_move, is_noted, reaches, slot_after, slot_named, slot_or, unnoted_from}
+use Rattle.conductor_core.specs.Tells.{AllKept, DidTell, Ended, EndsTell, IsAgreed, IsSlot, MoveFits, MovesFit, PhasesFollow, Tells, TellsOn, phase_after, phase_on}
+use Rattle.conductor_core.specs.Orders.{can_rise}
+use Rattle.conductor_core.specs.Verdicts.{least_difference}
+use Rattle.conductor_core.proofs.Hearing.{stays_so}
+use Rattle.conductor_core.proofs.Settling.{Grounds, settled_tells}
 
--- ---- lists
+-- ---- in which phase it wants a move
 
-same_test : (j : ℕ) → (j == j) ≡ true
-same_test j = (Decides-eqb j j).1 refl
+abbrev Wanted : ConductorState → CutMove → Type 0
+Wanted c moves.None = Unit {0}
+Wanted c (moves.Look slot) = (c.phase ≡ phases.Quiet) × (slot ≡ c.next_look)
+Wanted c (moves.OpenRound floor) = (c.phase ≡ phases.Quiet) × (floor ≡ due c.ledger)
+Wanted c (moves.Note slot) = (c.phase ≡ phases.Gather) × (first_unnoted c.noted (nodes_of c) ≡ Some slot)
+Wanted c (moves.Agree taking) = (c.phase ≡ phases.Gather) × (taking ≡ takings.Both)
+Wanted c moves.Quiet = IsAgreed c.phase × (c.outcome ≡ None) × (list_all is_some c.verdicts ≡ true)
 
-other : (j node : ℕ) → (j == node) ≡ false → j ≢ node
-other j node t same = absurd (let u : (j == node) ≡ true = (Decides-eqb j node).1 same in let q : true ≡ false = sym u ∙ t in cc)
+wanted_is : (c : ConductorState) → Wanted c (wanted c)
+unfolding wanted
+wanted_is c = outcomes_of c.outcome refl
+  where
+    quiet : (b : Bool) → list_any (reaches (due c.ledger)) c.sights ≡ b → c.phase ≡ phases.Quiet → Wanted c (cond {A = CutMove} b (moves.OpenRound (due c.ledger)) (moves.Look c.next_look))
+    quiet true is at = (at, refl)
+    quiet false is at = (at, refl)
 
--- what holds of all holds of each
-equal_at : (all : List (Option Verdict)) (j : ℕ) → list_all is_equal all ≡ true → j < length all → slice_index_or all j None ≡ Some verdicts.Equal
-equal_at [] j h there = absurd (omega (arith, there))
-equal_at (Some verdicts.Equal ∷ more) zero h there = refl
-equal_at (Some (verdicts.Differ element) ∷ more) j h there = absurd cc
-equal_at (None ∷ more) j h there = absurd cc
-equal_at (Some verdicts.Equal ∷ more) (suc j) h there = equal_at more j h (omega (arith, there))
+    gather : (f : Option SlotId) → first_unnoted c.noted (nodes_of c) ≡ f → c.phase ≡ phases.Gather → Wanted c (gather_move f)
+    gather None is at = (at, refl)
+    gather (Some slot) is at = (at, is)
 
-length_map : {A B : Type 0} (f : A → B) (xs : List A) → length (map f xs) ≡ length xs
-length_map f [] = refl
-length_map f (x ∷ xs) = ap suc (length_map f xs)
+    agreed : (b : Bool) → list_all is_some c.verdicts ≡ b → IsAgreed c.phase → c.outcome ≡ None → Wanted c (cond {A = CutMove} b moves.Quiet moves.None)
+    agreed true is at going = (at, going, is)
+    agreed false is at going = tt
 
-map_set : {A B : Type 0} (f : A → B) (xs : List A) (i : ℕ) (x : A) → map f (slice_set xs i x) ≡ slice_set (map f xs) i (f x)
-map_set f [] i x = refl
-map_set f (y ∷ ys) zero x = refl
-map_set f (y ∷ ys) (suc i) x = ap (λ zs. f y ∷ zs) (map_set f ys i x)
+    in_phase : (phase : Phase) → c.phase ≡ phase → c.outcome ≡ None → Wanted c (move_in c phase)
+    in_phase phases.Quiet at going = quiet (list_any (reaches (due c.ledger)) c.sights) refl at
+    in_phase phases.Gather at going = gather (first_unnoted c.noted (nodes_of c)) refl at
+    in_phase (phases.Agreed k) at going = agreed (list_all is_some c.verdicts) refl (subst IsAgreed (sym at) tt) going
 
-none_some : {A : Type 0} (o : Option A) → o ≡ None → IsSome o → ⊥
-none_some None h some = absurd (let q : false ≡ true = some in cc)
-none_some (Some x) h some = absurd cc
+    outcomes_of : (found : Option Outcome) → c.outcome ≡ found → Wanted c (cond {A = CutMove} (is_some found) moves.None (move_in c c.phase))
+    outcomes_of None is = in_phase c.phase refl is
+    outcomes_of (Some outcome) is = tt
 
--- ---- Stop
+-- ---- slots
 
-says_behind : (P : Sent → Type 0) (xs : List Sent) (x : Sent) → AllByRecursion P xs → P x → AllByRecursion P (xs ++ x ∷ [])
-says_behind P [] x all new = (new, tt)
-says_behind P (y ∷ xs) x all new = (all.0, says_behind P xs x all.1 new)
+slot_goes_on : (nodes : ℕ) (slot : SlotId) → 1 ≤ nodes → IsSlot nodes slot → IsSlot nodes (slot_after nodes slot)
+slot_goes_on nodes slot some is = by (nat_lt (slot.node + 1) nodes) refl
+  where
+    turned : (b : Bool) → cond b 1 0 ≤ 1
+    turned true = omega arith
+    turned false = omega arith
 
-joined : (P : Sent → Type 0) (xs ys : List Sent) → AllByRecursion P xs → AllByRecursion P ys → AllByRecursion P (xs ++ ys)
-joined P [] ys a b = b
-joined P (x ∷ xs) ys a b = (a.0, joined P xs ys a.1 b)
+    by : (b : Bool) → nat_lt (slot.node + 1) nodes ≡ b → IsSlot nodes (cond {A = SlotId} b (slot_named slot.replica (slot.node + 1)) (slot_named (cond (slot.replica == 0) 1 0) 0))
+    by true h = (is.0, ltb-true (slot.node + 1) nodes h)
+    by false h = (turned (slot.replica == 0), omega (arith, some))
 
-stops_to_say : (p : Plan) (script : List Fault) (place : List ℕ) (r n : ℕ) → AllByRecursion (Says p script place) (stops_to r n)
-stops_to_say p script place r zero = tt
-stops_to_say p script place r (suc n) =
-    says_behind (Says p script place) (stops_to r n) (record { to = boxes.Slot (record { replica = r; node = n }); letter = letters.Stop }) (stops_to_say p script place r n) tt
+unnoted_is : (noted : List Bool) (nodes r j n : ℕ) (slot : SlotId) → r ≤ 1 → j + n ≤ nodes → unnoted_from noted nodes r j n ≡ Some slot → IsSlot nodes slot
+unnoted_is noted nodes r j zero slot h within is = absurd (let q : None ≡ Some slot = is in cc)
+unnoted_is noted nodes r j (suc n) slot h within is = by (is_noted noted nodes (slot_named r j)) (λ rest. unnoted_is noted nodes r (suc j) n slot h (omega (arith, within)) rest) is
+  where
+    by : (b : Bool) → (unnoted_from noted nodes r (suc j) n ≡ Some slot → IsSlot nodes slot) → cond b (unnoted_from noted nodes r (suc j) n) (Some (slot_named r j)) ≡ Some slot → IsSlot nodes slot
+    by true more is = more is
+    by false more is = let q : Some (slot_named r j) ≡ Some slot = is in let same : slot_named r j ≡ slot = cc in subst (IsSlot nodes) same (h, omega (arith, within))
 
-stops_say : (p : Plan) (script : List Fault) (place : List ℕ) (n : ℕ) → AllByRecursion (Says p script place) (stops n)
-stops_say p script place n = joined (Says p script place) (stops_to 0 n) (stops_to 1 n) (stops_to_say p script place 0 n) (stops_to_say p script place 1 n)
+first_is : (noted : List Bool) (nodes : ℕ) (slot : SlotId) → first_unnoted noted nodes ≡ Some slot → IsSlot nodes slot
+first_is noted nodes slot is = by (unnoted_from noted nodes 0 0 nodes) refl is
+  where
+    by : (f : Option SlotId) → unnoted_from noted nodes 0 0 nodes ≡ f → slot_or f (unnoted_from noted nodes 1 0 nodes) ≡ Some slot → IsSlot nodes slot
+    by None none is = unnoted_is noted nodes 1 0 nodes slot (omega arith) (omega arith) is
+    by (Some other) some is = unnoted_is noted nodes 0 0 nodes slot (omega arith) (omega arith) (some ∙ is)
 
--- ---- a verdict more
+pub moves_fit : MovesFit
+moves_fit p script o place c some tells = by (wanted c) (wanted_is c)
+  where
+    by : (move : CutMove) → Wanted c move → MoveFits p o.nodes c move
+    by moves.None w = tt
+    by (moves.Look slot) w = (w.0, subst (IsSlot o.nodes) (sym w.1) (tells.looks some))
+    by (moves.OpenRound floor) w = (w.0, w.1, omega (arith, w.1, tells.recorded.job))
+    by (moves.Note slot) w = (w.0, let P : ℕ → Type 0 = λ n. IsSlot n slot in subst P tells.sized.options (first_is c.noted (nodes_of c) slot w.1))
+    by (moves.Agree taking) w = w
+    by moves.Quiet w = w.0
 
-module _ (p : Plan) (script : List Fault) (place : List ℕ) (nodes : ℕ) where
-  keeps_verdict : (c : ConductorState) (node : ℕ) (verdict : Verdict) (piece : Piece) → Tells p script place nodes c → c.outcome ≡ None → node < length c.verdicts →
-      piece.bytes ≡ node_records p place (lines_of script c.first) p.iterations node → verdict ≡ node_verdict p place (lines_of script c.first) (lines_of script c.second) p.iterations node →
-      Going p script place (with_verdict node verdict piece c)
-  keeps_verdict c node verdict piece tells going there bytes is =
-      let g : Going p script place c = tells.going going in
-      record {
-        kept = λ j v at. by g j v at (j == node) refl;
-        records = g.records;
-        marks = g.marks;
-      }
+-- ---- answers
+
+module _ (g : Grounds) (p : Plan) (script : List Fault) (o : Options) (place : List ℕ) (count : length place ≡ elements p) (covers : Covers place o.nodes) (c : ConductorState) (tells : Tells p script o place c) where
+  -- a quiet or gathering round keeps no verdict, so it may be taken for another
+  kept_on : (phase other : Phase) → (IsAgreed phase → ⊥) → c.phase ≡ phase → AllKept p script place c.first c.second other c.verdicts c.pieces
+  kept_on phases.Quiet other never at j verdict is = absurd (let P : Phase → Type 0 = λ ph. AllKept p script place c.first c.second ph c.verdicts c.pieces in (subst P at tells.kept) j verdict is)
+  kept_on phases.Gather other never at j verdict is = absurd (let P : Phase → Type 0 = λ ph. AllKept p script place c.first c.second ph c.verdicts c.pieces in (subst P at tells.kept) j verdict is)
+  kept_on (phases.Agreed k) other never at j verdict is = absurd (never tt)
+
+  look_tells : (slot : SlotId) (answer : CutAnswer) → slot ≡ c.next_look → TellsOn p script o place c (moved p place (moves.Look slot) answer c)
+  look_tells slot answers.Nothing is = stays_so p script o place c tells
+  look_tells slot (answers.Agreed k) is = stays_so p script o place c tells
+  look_tells slot (answers.Seen sight) is = record {
+    tells = record {
+      sized = record {
+        options = tells.sized.options;
+        noted = tells.sized.noted;
+        sights = length-set c.sights (slot_place (nodes_of c) slot) (Some sight) ∙ tells.sized.sights;
+        verdicts = tells.sized.verdicts;
+        pieces = tells.sized.pieces;
+      };
+      recorded = tells.recorded;
+      stamped = tells.stamped;
+      kept = tells.kept;
+      looks = λ some.
+          let P : ℕ → Type 0 = λ n. IsSlot o.nodes (slot_after n slot) in
+          subst P (sym tells.sized.options) (slot_goes_on o.nodes slot some (subst (IsSlot o.nodes) (sym is) (tells.looks some)));
+      going = tells.going;
+      ended = λ some. let e : Ended p script o c = tells.ended some in record { outcome = e.outcome; ends = e.ends; bytes = e.bytes };
+    };
+    says = tt;
+    follows = record { first = λ j h. refl; second = λ j h. refl };
+  }
+
+  open_tells : (floor : ℕ) (answer : CutAnswer) → c.phase ≡ phases.Quiet → TellsOn p script o place c (moved p place (moves.OpenRound floor) answer c)
+  open_tells floor (answers.Seen sight) at = stays_so p script o place c tells
+  open_tells floor (answers.Agreed k) at = stays_so p script o place c tells
+  open_tells floor answers.Nothing at = record {
+    tells = record {
+      sized = record {
+        options = tells.sized.options;
+        noted = length-replicate (length c.noted) false ∙ tells.sized.noted;
+        sights = tells.sized.sights;
+        verdicts = tells.sized.verdicts;
+        pieces = tells.sized.pieces;
+      };
+      recorded = tells.recorded;
+      stamped = tells.stamped;
+      kept = kept_on phases.Quiet phases.Gather (λ agreed. agreed) at;
+      looks = tells.looks;
+      going = tells.going;
+      ended = λ some. let e : Ended p script o c = tells.ended some in record { outcome = e.outcome; ends = e.ends; bytes = e.bytes };
+    };
+    says = tt;
+    follows = record { first = λ j h. refl; second = λ j h. refl };
+  }
+
+  note_tells : (slot : SlotId) (answer : CutAnswer) → TellsOn p script o place c (moved p place (moves.Note slot) answer c)
+  note_tells slot answers.Nothing = stays_so p script o place c tells
+  note_tells slot (answers.Agreed k) = stays_so p script o place c tells
+  note_tells slot (answers.Seen sight) = by sight.cap
     where
-      by : Going p script place c → (j : ℕ) (v : Verdict) → verdict_at (with_verdict node verdict piece c) j ≡ Some v → (b : Bool) → (j == node) ≡ b → IsKept p script place (with_verdict node verdict piece c) j v
-      by g j v at true t =
-          let same : j ≡ node = eqb-true j node t in
-          let inside : node < length (map bytes_of c.pieces) = omega (arith, there, length_map bytes_of c.pieces, tells.sized.verdicts, tells.sized.pieces) in
-          let held : Some verdict ≡ Some v = sym (get_or-set_same c.verdicts node (Some verdict) None there) ∙ ap (λ i. slice_index_or (slice_set c.verdicts node (Some verdict)) i None) (sym same) ∙ at in
-          let which : verdict ≡ v = cc in
-          record {
-            bytes =
-                ap (λ bs. rest_at bs j) (map_set bytes_of c.pieces node piece) ∙ ap (λ i. rest_at (slice_set (map bytes_of c.pieces) node piece.bytes) i) same
-                ∙ get_or-set_same (map bytes_of c.pieces) node piece.bytes [] inside ∙ bytes ∙ ap (λ i. node_records p place (lines_of script c.first) p.iterations i) (sym same);
-            compares = sym which ∙ is ∙ ap (λ i. node_verdict p place (lines_of script c.first) (lines_of script c.second) p.iterations i) (sym same);
-          }
-      by g j v at false t =
-          let apart : j ≢ node = other j node t in
-          let k : IsKept p script place c j v = g.kept j v (sym (get_or-set_other c.verdicts node j (Some verdict) None apart) ∙ at) in
-          record {
-            bytes = ap (λ bs. rest_at bs j) (map_set bytes_of c.pieces node piece) ∙ get_or-set_other (map bytes_of c.pieces) node j piece.bytes [] apart ∙ k.bytes;
-            compares = k.compares;
-          }
-
-  -- ---- the end
-
-  settled_tells : PiecesMakeTheCheckpoint → length place ≡ elements p → Covers place nodes → (c : ConductorState) → IsOf nodes c → c.outcome ≡ None → Going p script place c → TellsOn p script place nodes c (settled p place nodes c)
-  settled_tells make count covers c is_of none g = by (list_all is_equal c.verdicts) refl
-    where
-      stays : TellsOn p script place nodes c (silent c)
-      stays = record { first = refl; second = refl; tells = record { sized = is_of; going = λ _. g; ended = λ some. absurd (none_some c.outcome none some) }; says = tt }
-
-      whole : list_all is_equal c.verdicts ≡ true → assembled p place c.pieces ≡ last_of p script c
-      whole all =
-          make p place (lines_of script c.first) p.iterations c.pieces count (subst (λ n. Covers place n) (sym is_of.pieces) covers)
-          (λ j h. (g.kept j verdicts.Equal (equal_at c.verdicts j all (omega (arith, h, is_of.pieces, is_of.verdicts)))).bytes)
-
-      by : (b : Bool) → list_all is_equal c.verdicts ≡ b → TellsOn p script place nodes c (cond {A = Heard} b (ended_with p nodes (assembled p place c.pieces) c) (silent c))
-      by false all = stays
-      by true all = record {
-        first = refl;
-        second = refl;
-        tells = record {
-          sized = record { verdicts = length_map forgotten c.verdicts ∙ is_of.verdicts; pieces = is_of.pieces };
-          going = λ h. absurd cc;
-          ended = λ _. record {
-            outcome = refl;
-            records = ap (λ rs. rs ++ (Accept p.iterations ∷ Done ∷ [])) g.records;
-            marks = ap (λ ms. ms ++ mark_of p.iterations (assembled p place c.pieces) ∷ []) g.marks ∙ ap (λ bytes. mark_of p.iterations bytes ∷ []) (whole all);
-            last = whole all;
-          };
+      with : (noted : List Bool) → length noted ≡ o.nodes + o.nodes → Tells p script o place (record c { sights = slice_set c.sights (slot_place (nodes_of c) slot) (Some sight); noted = noted })
+      with noted sized = record {
+        sized = record {
+          options = tells.sized.options;
+          noted = sized;
+          sights = length-set c.sights (slot_place (nodes_of c) slot) (Some sight) ∙ tells.sized.sights;
+          verdicts = tells.sized.verdicts;
+          pieces = tells.sized.pieces;
         };
-        says = stops_say p script place nodes;
+        recorded = tells.recorded;
+        stamped = tells.stamped;
+        kept = tells.kept;
+        looks = tells.looks;
+        going = tells.going;
+        ended = λ some. let e : Ended p script o c = tells.ended some in record { outcome = e.outcome; ends = e.ends; bytes = e.bytes };
       }
 
-  stays_so : (c : ConductorState) → Tells p script place nodes c → TellsOn p script place nodes c (silent c)
-  stays_so c tells = record { first = refl; second = refl; tells = tells; says = tt }
+      by : (cap : Option ℕ) → TellsOn p script o place c (silent (with_note slot cap (with_sight slot sight c)))
+      by None = record { tells = with c.noted tells.sized.noted; says = tt; follows = record { first = λ j h. refl; second = λ j h. refl } }
+      by (Some cap) = record {
+        tells = with (slice_set c.noted (slot_place (nodes_of c) slot) true) (length-set c.noted (slot_place (nodes_of c) slot) true ∙ tells.sized.noted);
+        says = tt;
+        follows = record { first = λ j h. refl; second = λ j h. refl };
+      }
 
--- ---- what makes a verdict count
+  agree_tells : (taking : Taking) (answer : CutAnswer) → c.phase ≡ phases.Gather → TellsOn p script o place c (moved p place (moves.Agree taking) answer c)
+  agree_tells taking answers.Nothing at = stays_so p script o place c tells
+  agree_tells taking (answers.Seen sight) at = stays_so p script o place c tells
+  agree_tells taking (answers.Agreed None) at = stays_so p script o place c tells
+  agree_tells taking (answers.Agreed (Some k)) at = record {
+    tells = record {
+      sized = record { options = tells.sized.options; noted = tells.sized.noted; sights = tells.sized.sights; verdicts = tells.sized.verdicts; pieces = tells.sized.pieces };
+      recorded = tells.recorded;
+      stamped = tells.stamped;
+      kept = kept_on phases.Gather (phases.Agreed k) (λ agreed. agreed) at;
+      looks = tells.looks;
+      going = tells.going;
+      ended = λ some. let e : Ended p script o c = tells.ended some in record { outcome = e.outcome; ends = e.ends; bytes = e.bytes };
+    };
+    says = tt;
+    follows = record { first = λ j h. refl; second = λ j h. refl };
+  }
 
-parts_of : (a b c d e : Bool) → (a && b && c && d && e) ≡ true → (a ≡ true) × (b ≡ true) × (c ≡ true) × (d ≡ true) × (e ≡ true)
-parts_of true true true true true h = (refl, refl, refl, refl, refl)
-parts_of false b c d e h = absurd cc
-parts_of true false c d e h = absurd cc
-parts_of true true false d e h = absurd cc
-parts_of true true true false e h = absurd cc
-parts_of true true true true false h = absurd cc
+  quiet_moved : (answer : CutAnswer) → Wanted c moves.Quiet → TellsOn p script o place c (moved p place moves.Quiet answer c)
+  quiet_moved (answers.Seen sight) w = stays_so p script o place c tells
+  quiet_moved (answers.Agreed k) w = stays_so p script o place c tells
+  quiet_moved answers.Nothing w = by c.phase refl
+    where
+      by : (phase : Phase) → c.phase ≡ phase → TellsOn p script o place c (settled_in p place phase c)
+      by phases.Quiet at = stays_so p script o place c tells
+      by phases.Gather at = stays_so p script o place c tells
+      by (phases.Agreed k) at = settled_tells g p script o place count covers c tells k at w.1 w.2
 
-none_is : {A : Type 0} (o : Option A) → is_none o ≡ true → o ≡ None
-none_is None h = refl
-none_is (Some x) h = absurd cc
+  moved_tells : (move : CutMove) (answer : CutAnswer) → Wanted c move → TellsOn p script o place c (moved p place move answer c)
+  moved_tells moves.None answer w = stays_so p script o place c tells
+  moved_tells (moves.Look slot) answer w = look_tells slot answer w.1
+  moved_tells (moves.OpenRound floor) answer w = open_tells floor answer w.0
+  moved_tells (moves.Note slot) answer w = note_tells slot answer
+  moved_tells (moves.Agree taking) answer w = agree_tells taking answer w.0
+  moved_tells moves.Quiet answer w = quiet_moved answer w
 
-same_lines : (a b : Stamp) → same_stamp a b ≡ true → a.lines.0 ≡ b.lines.0
-same_lines a b h = by (a.replica == b.replica) (a.epoch == b.epoch) (a.lines.0 == b.lines.0) h refl
-  where
-    by : (x y z : Bool) → (x && y && z) ≡ true → (a.lines.0 == b.lines.0) ≡ z → a.lines.0 ≡ b.lines.0
-    by true true true h is = eqb-true a.lines.0 b.lines.0 is
-    by true true false h is = absurd cc
-    by true false z h is = absurd cc
-    by false y z h is = absurd cc
+pub did_tell : Grounds → DidTell
+unfolding conductor_did
+did_tell g p script o place answer c count covers tells = moved_tells g p script o place count covers c tells (wanted c) answer (wanted_is c)
 
-verdict_tells : PiecesMakeTheCheckpoint → (p : Plan) (script : List Fault) (place : List ℕ) (nodes : ℕ) → length place ≡ elements p → Covers place nodes → (first second : Stamp) (node k : ℕ) (verdict : Verdict) (piece : Piece) (c : ConductorState) →
-    Tells p script place nodes c → Holds p script place boxes.Conductor (letters.VerdictOf first second node k verdict piece) → TellsOn p script place nodes c (verdict_heard p place nodes first second node k verdict piece c)
-verdict_tells make p script place nodes count covers first second node k verdict piece c tells holds = by (counts p first second node k c) refl
-  where
-    by : (b : Bool) → counts p first second node k c ≡ b → TellsOn p script place nodes c (cond {A = Heard} b (settled p place nodes (with_verdict node verdict piece c)) (silent c))
-    by false h = stays_so p script place nodes c tells
-    by true h =
-        let t = parts_of (is_none c.outcome) (same_stamp first c.first) (same_stamp second c.second) (k == p.iterations) (nat_lt node (length c.verdicts)) h in
-        let none : c.outcome ≡ None = none_is c.outcome t.0 in
-        let there : node < length c.verdicts = ltb-true node (length c.verdicts) t.4 in
-        let at : k ≡ p.iterations = eqb-true k p.iterations t.3 in
-        let l1 : lines_of script first ≡ lines_of script c.first = ap (λ set. Rattle.fault_script.specs.Lines.flips_in script set) (same_lines first c.first t.1) in
-        let l2 : lines_of script second ≡ lines_of script c.second = ap (λ set. Rattle.fault_script.specs.Lines.flips_in script set) (same_lines second c.second t.2) in
-        let bytes : piece.bytes ≡ node_records p place (lines_of script c.first) p.iterations node =
-        holds.0.bytes ∙ ap (λ i. node_records p place (lines_of script first) i piece.node) (holds.2 ∙ at) ∙ ap (λ j. node_records p place (lines_of script first) p.iterations j) holds.1
-        ∙ ap (λ lines. node_records p place lines p.iterations node) l1 in
-        let is : verdict ≡ node_verdict p place (lines_of script c.first) (lines_of script c.second) p.iterations node =
-        holds.3 ∙ ap (λ i. node_verdict p place (lines_of script first) (lines_of script second) i node) at
-        ∙ ap (λ lines. node_verdict p place lines (lines_of script second) p.iterations node) l1 ∙ ap (λ lines. node_verdict p place (lines_of script c.first) lines p.iterations node) l2 in
-        let on : TellsOn p script place nodes (with_verdict node verdict piece c) (settled p place nodes (with_verdict node verdict piece c)) =
-        settled_tells p script place nodes make count covers (with_verdict node verdict piece c)
-        (record { verdicts = length-set c.verdicts node (Some verdict) ∙ tells.sized.verdicts; pieces = length-set c.pieces node piece ∙ tells.sized.pieces })
-        none (keeps_verdict p script place nodes c node verdict piece tells none there bytes is) in
-        record { first = on.first; second = on.second; tells = on.tells; says = on.says }
+-- ---- the end
 
-pub hears_tell : PiecesMakeTheCheckpoint → HearsTell
+pub ends_tell : EndsTell
+ends_tell p script o place c ending tells outcome records marks last =
+    let start : LedgerState = opening_ledger script o p.iterations in
+    let e : Ended p script o c = tells.ended (ap is_some outcome) in
+    let P : List Record → Type 0 = λ rs. Steps p script o rs in
+    let Q : List Record → Type 0 = λ rs. EndsWith rs Done in
+    let R : List Record → Type 0 = λ rs. IsLast p start rs c.last in
+    let S : List ℕ → Type 0 = λ bytes. IsLast p start ending.records.items bytes in
+    let done : Some ending.outcome ≡ Some outcomes.Done = sym outcome ∙ e.outcome in
+    record {
+      lawful = record { steps = subst P (sym records) tells.recorded.steps; last = Done; ends = subst Q (sym records) e.ends; over = tt };
+      outcome = let same : ending.outcome ≡ outcomes.Done = cc in same;
+      marks = marks ∙ tells.recorded.marked ∙ ap (marks_from p start) (sym records);
+      last = subst S (sym last) (subst R (sym records) e.bytes);
+    }
+
+-- ---- phases
+
+with_note_stays : (slot : SlotId) (cap : Option ℕ) (c : ConductorState) → (with_note slot cap c).phase ≡ c.phase
+with_note_stays slot None c = refl
+with_note_stays slot (Some cap) c = refl
+
+agreed_on_stays : (k : Option ℕ) (c : ConductorState) → (agreed_on k c).phase ≡ phase_on k c.phase
+agreed_on_stays None c = refl
+agreed_on_stays (Some k) c = refl
+
+module _ (p : Plan) (place : List ℕ) where
+  finished_stays : (r : Option ℕ) (bytes : List ℕ) (h : Heard) → (finished_by r bytes h).conductor.phase ≡ h.conductor.phase
+  finished_stays None bytes h = refl
+  finished_stays (Some which) bytes h = refl
+
+  accepted_stays : (r : Option ℕ) (k : ℕ) (c : ConductorState) → (accepted_by r p place k c).conductor.phase ≡ c.phase
+  accepted_stays None k c =
+      let on : Heard = gone_on (with_mark (assembled p place c.pieces) (with_record (Accept k) c)) in
+      finished_stays (unlawful on.conductor.ledger Done) (assembled p place c.pieces) on
+  accepted_stays (Some which) k c = refl
+
+  differed_stays : (b : Bool) (r : Option ℕ) (k : ℕ) (e : ElementId) (c : ConductorState) → (cond {A = Heard} b (differed_by r k e c) (silent c)).conductor.phase ≡ c.phase
+  differed_stays true None k e c = refl
+  differed_stays true (Some which) k e c = refl
+  differed_stays false r k e c = refl
+
+  settled_stays : (f : Option ElementId) (k : ℕ) (c : ConductorState) → (settled_by p place k f c).conductor.phase ≡ c.phase
+  settled_stays None k c = accepted_stays (unlawful c.ledger (Accept k)) k c
+  settled_stays (Some e) k c = differed_stays (can_rise c.first && can_rise c.second) (unlawful c.ledger (Differ k e)) k e c
+
+  settled_quiet : (phase : Phase) (c : ConductorState) → IsAgreed phase → (settled_in p place phase c).conductor.phase ≡ phases.Quiet
+  settled_quiet phases.Quiet c agreed = absurd agreed
+  settled_quiet phases.Gather c agreed = absurd agreed
+  settled_quiet (phases.Agreed k) c agreed = settled_stays (least_difference c.verdicts) k (quieted c)
+
+  moved_phase : (move : CutMove) (answer : CutAnswer) (c : ConductorState) → Wanted c move → (moved p place move answer c).conductor.phase ≡ phase_after move answer c.phase
+  moved_phase moves.None answer c w = refl
+  moved_phase (moves.Look slot) answers.Nothing c w = refl
+  moved_phase (moves.Look slot) (answers.Seen sight) c w = refl
+  moved_phase (moves.Look slot) (answers.Agreed k) c w = refl
+  moved_phase (moves.OpenRound floor) answers.Nothing c w = refl
+  moved_phase (moves.OpenRound floor) (answers.Seen sight) c w = refl
+  moved_phase (moves.OpenRound floor) (answers.Agreed k) c w = refl
+  moved_phase (moves.Note slot) answers.Nothing c w = refl
+  moved_phase (moves.Note slot) (answers.Seen sight) c w = with_note_stays slot sight.cap (with_sight slot sight c)
+  moved_phase (moves.Note slot) (answers.Agreed k) c w = refl
+  moved_phase (moves.Agree taking) answers.Nothing c w = refl
+  moved_phase (moves.Agree taking) (answers.Seen sight) c w = refl
+  moved_phase (moves.Agree taking) (answers.Agreed k) c w = agreed_on_stays k c
+  moved_phase moves.Quiet answers.Nothing c w = settled_quiet c.phase c w.0
+  moved_phase moves.Quiet (answers.Seen sight) c w = refl
+  moved_phase moves.Quiet (answers.Agreed k) c w = refl
+
+heard_phase : (letter : Letter) (c : ConductorState) → (conductor_heard letter c).conductor.phase ≡ c.phase
 unfolding conductor_heard
-hears_tell make p script place nodes (letters.VerdictOf first second node k verdict piece) c count covers tells holds = verdict_tells make p script place nodes count covers first second node k verdict piece c tells holds
-hears_tell make p script place nodes (letters.Parcel stamp entry k to payload) c count covers tells holds = stays_so p script place nodes c tells
-hears_tell make p script place nodes (letters.Partial stamp r k node value) c count covers tells holds = stays_so p script place nodes c tells
-hears_tell make p script place nodes (letters.Total stamp r k value) c count covers tells holds = stays_so p script place nodes c tells
-hears_tell make p script place nodes (letters.Piece stamp piece) c count covers tells holds = stays_so p script place nodes c tells
-hears_tell make p script place nodes (letters.Lend k fresh) c count covers tells holds = stays_so p script place nodes c tells
-hears_tell make p script place nodes (letters.Take stamp k live piece) c count covers tells holds = stays_so p script place nodes c tells
-hears_tell make p script place nodes (letters.Restore stamp k live) c count covers tells holds = stays_so p script place nodes c tells
-hears_tell make p script place nodes (letters.Commit stamp k live) c count covers tells holds = stays_so p script place nodes c tells
-hears_tell make p script place nodes (letters.Resume stamp) c count covers tells holds = stays_so p script place nodes c tells
-hears_tell make p script place nodes (letters.Died stamp slot line) c count covers tells holds = stays_so p script place nodes c tells
-hears_tell make p script place nodes letters.Stop c count covers tells holds = stays_so p script place nodes c tells
+heard_phase (letters.VerdictOf first second node k verdict piece) c = by (counts first second node k c)
+  where
+    by : (b : Bool) → (cond {A = ConductorState} b (with_verdict node verdict piece c) c).phase ≡ c.phase
+    by true = refl
+    by false = refl
+heard_phase (letters.Parcel stamp entry k to payload) c = refl
+heard_phase (letters.Partial stamp r k node value) c = refl
+heard_phase (letters.Total stamp r k value) c = refl
+heard_phase (letters.Piece stamp piece) c = refl
+heard_phase (letters.Lend k fresh) c = refl
+heard_phase (letters.Take stamp k live piece) c = refl
+heard_phase (letters.Restore stamp k live) c = refl
+heard_phase (letters.Commit stamp k live) c = refl
+heard_phase (letters.Resume stamp) c = refl
+heard_phase (letters.Died stamp slot line) c = refl
+heard_phase letters.Stop c = refl
 
--- ---- the start
+did_phase : (p : Plan) (place : List ℕ) (answer : CutAnswer) (c : ConductorState) → (conductor_did p place answer c).conductor.phase ≡ phase_after (wanted c) answer c.phase
+unfolding conductor_did
+did_phase p place answer c = moved_phase p place (wanted c) answer c (wanted_is c)
 
-unheard_count : (n : ℕ) → length (unheard n) ≡ n
-unheard_count zero = refl
-unheard_count (suc n) = length-append (unheard n) (None ∷ []) ∙ omega (arith, unheard_count n)
-
-pieces_count : (n : ℕ) → length (no_pieces n) ≡ n
-pieces_count zero = refl
-pieces_count (suc n) = length-append (no_pieces n) (record { node = n; iteration = 0; bytes = [] } ∷ []) ∙ omega (arith, pieces_count n)
-
-none_behind : (all : List (Option Verdict)) (j : ℕ) → ((i : ℕ) → slice_index_or all i None ≡ None) → slice_index_or (all ++ None ∷ []) j None ≡ None
-none_behind [] zero none = refl
-none_behind [] (suc j) none = refl
-none_behind (x ∷ more) zero none = none zero
-none_behind (x ∷ more) (suc j) none = none_behind more j (λ i. none (suc i))
-
-unheard_none : (n j : ℕ) → slice_index_or (unheard n) j None ≡ None
-unheard_none zero j = refl
-unheard_none (suc n) j = none_behind (unheard n) j (unheard_none n)
-
-pub starts_tell : StartsTell
-unfolding start_conductor
-starts_tell p script place nodes = record {
-  sized = record { verdicts = unheard_count nodes; pieces = pieces_count nodes };
-  going = λ _. record {
-    kept = λ j verdict at. absurd (let q : None ≡ Some verdict = sym (unheard_none nodes j) ∙ at in cc);
-    records = refl;
-    marks = refl;
-  };
-  ended = λ some. absurd cc;
-}
-
--- ---- the same flips
-
-pub equal_lines : EqualExactly → EqualLinesAgree
-equal_lines exactly p place lines k j = (exactly p (node_records p place lines k j) (node_records p place lines k j)).1 refl
+pub phases_follow : PhasesFollow
+phases_follow = record { did = did_phase; heard = heard_phase }

@@ -1,10 +1,11 @@
-//! The conductor: what the slots' comparisons say, as the records of the run.
+//! The conductor of a run: from round to round of the agreement, and from the slots' comparisons to records and orders.
 //!
-//! A conductor hears how the pieces of each node compare, under the stamps that the two replicas have at present, and
-//! keeps for each node the verdict and the piece of replica 0. Once both replicas have equal pieces of every node after
-//! the last iteration it accepts the checkpoint and ends the run. `specs/Conductors` says what each letter makes of it,
-//! and `specs/Tells` what then holds: whatever true letters it hears, what it keeps is the definition's, and so is the
-//! checkpoint that it accepts. `conductors_tell` is that law.
+//! The conductor looks at the slots, and once one of them has come to the iteration at which the next checkpoint is due
+//! it opens a round, notes every slot's cap, and agrees on an iteration at which all slots pack. It hears how the pieces
+//! of each node compare, under the stamps that the two replicas have at present, and keeps for each node the verdict and
+//! the piece of replica 0. With all verdicts there it makes the round quiet and records what they say: equal checkpoints
+//! are accepted, and all slots take theirs as the base; else the least element that differs is named, and all slots go
+//! back. `specs/Conductors` says what each letter and each answer makes of it.
 //!
 //! A run ends with an `Ending`: the records of the whole run, a mark of each checkpoint that became the base, and the
 //! last one's bytes. `specs/Endings` says which marks and bytes those are, told from the definitions alone. The report is
@@ -15,3 +16,6 @@ pub mod conductor;
 pub mod ending;
 pub mod laws;
 pub mod opening;
+mod orders;
+mod verdicts;
+pub mod wants;

@@ -1,0 +1,8 @@
+pub mod Cutting
+pub mod Capping
+pub mod Ranges
+pub mod Placed
+pub mod Holding
+pub mod Continuing
+pub mod Following
+pub mod Fitting

@@ -1,2 +1,12 @@
 pub mod Lines
 pub mod Strikes
+pub mod Text
+pub mod Numbers
+pub mod Naming
+pub mod Forms
+pub mod Meaning
+pub mod Reading
+pub mod Held
+pub mod OneLine
+pub mod Laws
+pub mod Wording

@@ -7,4 +7,11 @@
 #![tactic(auto)]
 
 pub mod fault;
+mod form;
+pub mod laws;
+pub mod meaning;
+pub mod name;
+mod number;
+pub mod reading;
 pub mod script;
+mod text;

@@ -71,6 +71,22 @@ impl Cut {
         self.round
     }
 
+    /// How many nodes each replica has.
+    pub fn nodes(&self) -> u16
+        ensures exact { result ≡ self.now.nodes }
+        ensures few { result ≤ 32 }
+    {
+        self.nodes
+    }
+
+    /// How a slot stands to the conductor: its top, and its cap where it reported one in this round. Nothing is noted.
+    pub fn sight(&self, slot: SlotId) -> Sight
+        requires { HasSlot self.now slot }
+        ensures { result ≡ sight_of self.now.round (slot_of self.now slot) }
+    {
+        slot::sight_of(self.round, &self.slots[slot_place(self.nodes, slot)])
+    }
+
     /// How a slot stands: what the conditions of its moves ask.
     pub fn standing(&self, slot: SlotId) -> Standing
         requires { HasSlot self.now slot }

@@ -1,5 +1,5 @@
 -- Stamps, and the flips of their lines.
-use Rattle.std.specs.Prelude.{ℕ, Bool, ◌==◌, ◌&&◌, List}
+use Rattle.std.specs.Prelude.{Bool, ◌==◌, ◌&&◌, List}
 use Rattle.chare_base.specs.Flip.{Flip}
 use Rattle.fault_script.specs.declared.fault.Fault.{Fault}
 use Rattle.fault_script.specs.Lines.{flips_in}

@@ -1,7 +1,6 @@
 -- Which letters are true.
-use Rattle.std.specs.Prelude.{◌≡◌, ℕ, ◌<◌, ◌≤◌, ◌==◌, ℤ, if◌then◌else◌, List, [], ◌∷◌, ◌++◌, Option, Some, None}
+use Rattle.std.specs.Prelude.{◌≡◌, ℕ, ◌<◌, ◌≤◌, ◌==◌, ℤ, if◌then◌else◌, List, [], ◌∷◌, ◌++◌, Some, None}
 use Rattle.chare_base.specs.declared.message.Port.TheVariants as ports
-use Rattle.chare_base.specs.declared.plan.ElementId.{ElementId}
 use Rattle.chare_base.specs.declared.plan.Plan.{Plan}
 use Rattle.chare_base.specs.declared.plan.Reduction.{Reduction}
 use Rattle.chare_base.specs.Elements.{elements, place_of}
@@ -14,7 +13,6 @@ use Rattle.chare_eval.specs.Inside.{message_to}
 use Rattle.chare_eval.specs.Laws.{contribution_of, contributions_from, first_member, some_number}
 use Rattle.chare_eval.specs.Stage as stages
 use Rattle.fault_script.specs.declared.fault.Fault.{Fault}
-use Rattle.fault_script.specs.declared.fault.Fault.TheVariants as faults
 use Rattle.pup_state.specs.declared.compare.Verdict.{Verdict}
 use Rattle.pup_state.specs.declared.piece.Piece.{Piece}
 use Rattle.pup_state.specs.Spelling.{records_of}
@@ -24,7 +22,6 @@ use Rattle.letter_post.specs.declared.letter.BoxId.TheVariants as boxes
 use Rattle.letter_post.specs.declared.letter.Letter.{Letter}
 use Rattle.letter_post.specs.declared.letter.Letter.TheVariants as letters
 use Rattle.letter_post.specs.declared.letter.Sent.{Sent}
-use Rattle.letter_post.specs.declared.stamp.Stamp.{Stamp}
 use Rattle.letter_post.specs.Stamps.{lines_of}
 
 -- ---- pieces

@@ -18,7 +18,8 @@ use Rattle.chare_base.specs.Placing.{members}
 use Rattle.chare_base.specs.Ports.{total_port}
 use Rattle.chare_base.specs.Total.{joined_to}
 use Rattle.chare_eval.specs.Inside.{message_to}
-use Rattle.chare_eval.specs.Laws.{TotalsAreTrue, contributions_from, first_member}
+use Rattle.chare_eval.specs.Later.{LaterFlipsDecideInside}
+use Rattle.chare_eval.specs.Laws.{EarlierFlipsDecide, TotalsAreTrue, contributions_from, first_member}
 use Rattle.chare_eval.specs.Stage.{one_value, total_payload}
 use Rattle.chare_eval.specs.Stage as stages
 use Rattle.fault_script.specs.declared.fault.Fault.{Fault}
@@ -26,6 +27,8 @@ use Rattle.letter_post.specs.declared.letter.BoxId.TheVariants as boxes
 use Rattle.letter_post.specs.declared.letter.Letter.{Letter}
 use Rattle.letter_post.specs.declared.letter.Letter.TheVariants as letters
 use Rattle.letter_post.specs.declared.stamp.Stamp.{Stamp}
+use Rattle.letter_post.specs.Orders.{FollowsOrder, next_order, order_of}
+use Rattle.letter_post.specs.Orders as orders
 use Rattle.letter_post.specs.Stamps.{lines_of, same_stamp}
 use Rattle.letter_post.specs.Truth.{Holds, IsPartial, IsPiece, IsTotal, Says}
 use Rattle.object_steps.specs.Laws.{Follows, IsMessage, ObjectsFollow}
@@ -35,12 +38,14 @@ use Rattle.pup_state.specs.declared.piece.Piece.{Piece}
 use Rattle.node_core.specs.declared.piece.Held.{Held}
 use Rattle.node_core.specs.Gatherings.{Gathering, Tallied, is_of, tallied}
 use Rattle.node_core.specs.Keeps.{Alive, AllAt, Gathers, HearsKeep, IsHeld, IsSharing, Keeps, KeepsOn, element_of, share_of}
-use Rattle.node_core.specs.Nodes.{Body, Heard, NodeState, Outcome, body_heard, compared, is_new, node_heard, parcel_heard, partial_heard, piece_heard, piece_kept, share_heard, share_tallied, taken_at, taken_by, total_heard, total_sent, total_taken, unmoved, with_body, with_heard, with_mail}
+use Rattle.node_core.specs.Loads.{LoadsBack}
+use Rattle.node_core.specs.Nodes.{Body, Heard, NodeState, body_heard, is_new, node_heard, node_heard_as, node_heard_by, parcel_heard, partial_heard, piece_heard, piece_kept, share_heard, taken_at, taken_by, total_heard, total_sent, total_taken, unmoved, with_body, with_mail}
 use Rattle.node_core.specs.Rosters.{Roster, node_count, nodes_with, number_in, roster_of, seat_of, sharers_of}
 use Rattle.node_core.specs.Turns.{is_at, takes}
 use Rattle.node_core.proofs.Gathering.{Counts, collected, new_of, tallied_counts}
 use Rattle.node_core.proofs.Keeping.{BodyKeeps, body_on, compared_says, stays_on}
 use Rattle.node_core.proofs.Lists.{all_mapped, all_set, get_mapped, got_at, map_same, map_set}
+use Rattle.node_core.proofs.Obeying.{order_keeps}
 use Rattle.node_core.proofs.Seats.{numbered, seated, sharers_are}
 use Rattle.node_core.proofs.Totalling.{total_is}
 use Rattle.node_core.proofs.Turning.{TakeStays, first, second, take_keeps, take_stays}
@@ -288,12 +293,30 @@ module _ (law : ObjectsFollow) (totals : TotalsAreTrue) (make : NodesMakeWhole) 
     heard_keeps (letters.Died stamp slot line) holds = still
     heard_keeps letters.Stop holds = still
 
-pub hears_keep : ObjectsFollow → TotalsAreTrue → NodesMakeWhole → HearsKeep
+pub hears_keep : ObjectsFollow → TotalsAreTrue → NodesMakeWhole → EarlierFlipsDecide → LaterFlipsDecideInside → LoadsBack → HearsKeep
 unfolding node_heard
-hears_keep law totals make p script place letter n keeps holds = by n.body keeps.body
+hears_keep law totals make earlier inside back p script place letter n keeps = by letter
   where
-    by : (body : Option Body) → IfSome body (Alive p script place n) → KeepsOn p script place n (Rattle.node_core.specs.Nodes.node_heard_by p script place letter n body)
-    by None alive = stays_on p script place n keeps
-    by (Some b) alive =
-        let h : Heard = body_heard p script place n.slot n.last.stamp n.roster b letter in
-        body_on p script place n h.body h.out keeps (heard_keeps law totals make p script place n keeps b alive letter holds)
+    mailed : (mail : Letter) → Holds p script place (boxes.Slot n.slot) mail → KeepsOn p script place n n.last (node_heard_by p script place mail n n.body)
+    mailed mail holds = live n.body keeps.body
+      where
+        live : (body : Option Body) → IfSome body (Alive p script place n) → KeepsOn p script place n n.last (node_heard_by p script place mail n body)
+        live None alive = stays_on p script place n keeps
+        live (Some b) alive =
+            let h : Heard = body_heard p script place n.slot n.last.stamp n.roster b mail in
+            body_on p script place n h.body h.out keeps (heard_keeps law totals make p script place n keeps b alive mail holds)
+
+    by : (x : Letter) → Holds p script place (boxes.Slot n.slot) x → FollowsOrder p script n.last x → KeepsOn p script place n (next_order n.last x) (node_heard_as p script place x n (order_of x))
+    by (letters.Parcel stamp entry k to payload) holds follows = mailed (letters.Parcel stamp entry k to payload) holds
+    by (letters.Partial stamp r k node value) holds follows = mailed (letters.Partial stamp r k node value) holds
+    by (letters.Total stamp r k value) holds follows = mailed (letters.Total stamp r k value) holds
+    by (letters.Piece stamp piece) holds follows = mailed (letters.Piece stamp piece) holds
+    by (letters.VerdictOf one two node k verdict piece) holds follows = mailed (letters.VerdictOf one two node k verdict piece) holds
+    by (letters.Lend k fresh) holds follows = mailed (letters.Lend k fresh) holds
+    by (letters.Died stamp slot line) holds follows = mailed (letters.Died stamp slot line) holds
+    by letters.Stop holds follows = mailed letters.Stop holds
+    by (letters.Restore stamp k live) holds follows = order_keeps law earlier inside back p script place n keeps (orders.Restore stamp k live) follows tt
+    by (letters.Commit stamp k live) holds follows = order_keeps law earlier inside back p script place n keeps (orders.Commit stamp k live) follows tt
+    by (letters.Resume stamp) holds follows = order_keeps law earlier inside back p script place n keeps (orders.Resume stamp) follows tt
+    by (letters.Take stamp k live piece) holds follows =
+        order_keeps law earlier inside back p script place n keeps (orders.Take stamp k live piece) follows (record { node = holds.1; is = holds.0 })

@@ -36,14 +36,14 @@ pub record BodyKeeps (p : Plan) (script : List Fault) (place : List ℕ) (n : No
   pub says : AllByRecursion (Says p script place) out
 
 abbrev pub silent_keeps : Type 0
-silent_keeps = (p : Plan) (script : List Fault) (place : List ℕ) (n : NodeState) → Keeps p script place n → KeepsOn p script place n (silent n)
+silent_keeps = (p : Plan) (script : List Fault) (place : List ℕ) (n : NodeState) → Keeps p script place n → KeepsOn p script place n n.last (silent n)
 
 pub stays_on : silent_keeps
 stays_on p script place n keeps = record { slot = refl; last = refl; roster = refl; keeps = keeps; says = tt }
 
 -- a node with a body that keeps
 pub body_on : (p : Plan) (script : List Fault) (place : List ℕ) (n : NodeState) (b : Body) (out : List Sent) → Keeps p script place n → BodyKeeps p script place (with_body n b) b out →
-    KeepsOn p script place n (record { node = with_body n b; out = out })
+    KeepsOn p script place n n.last (record { node = with_body n b; out = out })
 body_on p script place n b out keeps h = record {
   slot = refl;
   last = refl;
@@ -148,7 +148,7 @@ unfolding node_ran
 runs_keep law stay p script place limit e n keeps cap = by n.body refl keeps.body cap
   where
     by : (body : Option Body) → n.body ≡ body → IfSome body (Alive p script place n) → CappedBody limit body →
-        KeepsOn p script place n (outcome_of (Rattle.node_core.specs.Nodes.node_ran_by p script place limit e n body))
+        KeepsOn p script place n n.last (outcome_of (Rattle.node_core.specs.Nodes.node_ran_by p script place limit e n body))
     by None is alive capped = stays_on p script place n keeps
     by (Some b) is alive capped =
         let r : Ran = body_ran p (lines_of script n.last.stamp) place limit e n.slot n.last.stamp n.roster b in
@@ -158,11 +158,11 @@ pub turns_keep : ObjectsFollow → ElementStays → TurnsKeep
 unfolding node_turned
 turns_keep law stay p script place limit n keeps cap = by (first_running p limit n)
   where
-    idle : (b : Bool) → KeepsOn p script place n (outcome_of (record { node = n; turn = idle_of b }))
+    idle : (b : Bool) → KeepsOn p script place n n.last (outcome_of (record { node = n; turn = idle_of b }))
     idle true = stays_on p script place n keeps
     idle false = stays_on p script place n keeps
 
-    by : (o : Option ElementId) → KeepsOn p script place n (outcome_of (node_turned_by p script place limit n o))
+    by : (o : Option ElementId) → KeepsOn p script place n n.last (outcome_of (node_turned_by p script place limit n o))
     by None = idle (is_some (next_begin n))
     by (Some e) = runs_keep law stay p script place limit e.0 n keeps cap
 
@@ -181,7 +181,7 @@ packed_is p own k (o ∷ more) kept at =
     ap (λ x. record_spelling p o.element.0 k x ++ objects_records p k more) cells
     ∙ ap (λ xs. record_spelling p o.element.0 k (cells_at (fold p own k) o.element.0) ++ xs) rest
 
-all_at_each : (k : ℕ) (all : List Progress) → all_at_of k all ≡ true → AllAt k all
+pub all_at_each : (k : ℕ) (all : List Progress) → all_at_of k all ≡ true → AllAt k all
 all_at_each k [] h = tt
 all_at_each k (o ∷ more) h = (first (is_at k o) (all_at_of k more) h, all_at_each k more (second (is_at k o) (all_at_of k more) h))
 
@@ -214,7 +214,7 @@ packs_keep p script place k n keeps at within = by n.body keeps.body at
     sends b alive false mine = compared_says p script place n (Some (piece_of p k n.slot.node b.objects)) b.other mine alive.other
 
     by : (body : Option Body) → IfSome body (Alive p script place n) → Rattle.node_core.specs.Nodes.all_at_by k body ≡ true →
-        KeepsOn p script place n (Rattle.node_core.specs.Nodes.node_packed_by p script k n body)
+        KeepsOn p script place n n.last (Rattle.node_core.specs.Nodes.node_packed_by p script k n body)
     by None alive here = stays_on p script place n keeps
     by (Some b) alive here =
         let piece : Piece = piece_of p k n.slot.node b.objects in

@@ -5,6 +5,8 @@ pub mod Gathering
 pub mod Totalling
 pub mod Sending
 pub mod Keeping
+pub mod Rebased
+pub mod Obeying
 pub mod Hearing
 pub mod Starting
 pub mod Counting
@@ -28,5 +30,7 @@ pub mod Costing
 pub mod Weighing
 pub mod Lowering
 pub mod Firsts
+pub mod Loads
+pub mod Loaded
 pub mod Logs
 pub mod Sharers

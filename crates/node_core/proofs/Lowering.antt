@@ -23,6 +23,7 @@ use Rattle.letter_post.specs.declared.letter.Letter.{Letter}
 use Rattle.letter_post.specs.declared.letter.Letter.TheVariants as letters
 use Rattle.letter_post.specs.declared.letter.Sent.{Sent}
 use Rattle.letter_post.specs.declared.stamp.Stamp.{Stamp}
+use Rattle.letter_post.specs.Orders.{Order, order_of}
 use Rattle.letter_post.specs.Stamps.{lines_of, same_stamp}
 use Rattle.letter_post.specs.Truth.{in_array}
 use Rattle.object_steps.specs.Laws.{Follows, ObjectsFollow}
@@ -37,7 +38,7 @@ use Rattle.node_core.specs.declared.turn.Turn.TheVariants as turns
 use Rattle.node_core.specs.Costs.{HearsLower, PacksLower, RunsLower, StartLeaves, body_left, contribution_cost, gathering_left, is_first, left_by, left_of, node_left, outcome_left, round_cost, sent_weight, share_weight, sharers, sharers_in, sum, times, to_pack, totals_left, weight}
 use Rattle.node_core.specs.Gatherings.{Tallied, tallied}
 use Rattle.node_core.specs.Keeps.{Alive, Keeps, element_of}
-use Rattle.node_core.specs.Nodes.{Body, Heard, NodeState, Passing, Ran, body_heard, body_ran, body_ran_at, body_ran_by, body_turned, compared, contributed_to, idle_of, node_at, node_heard, node_packed, node_ran, out_of, outcome_of, partial_heard, partial_sent, passed, passed_one, piece_heard, piece_kept, piece_of, sender_of, share_heard, stands, taken_at, taken_by, to_slot, total_heard, total_sent, total_taken, turn_of, unmoved, verdict_sent, with_mail, with_tallied, node_packed_by, node_heard_by, parcel_heard, node_ran_by, parcel_of, total_to, is_new}
+use Rattle.node_core.specs.Nodes.{Body, Heard, NodeState, Passing, Ran, body_heard, body_ran, body_ran_at, body_ran_by, body_turned, compared, contributed_to, idle_of, node_at, node_heard, node_heard_as, node_packed, node_ran, out_of, outcome_of, partial_heard, partial_sent, passed, passed_one, piece_heard, piece_kept, piece_of, sender_of, share_heard, stands, taken_at, taken_by, to_slot, total_heard, total_sent, total_taken, turn_of, unmoved, verdict_sent, with_mail, with_tallied, node_packed_by, node_heard_by, parcel_heard, node_ran_by, parcel_of, total_to, is_new}
 use Rattle.node_core.specs.Rosters.{count_of, number_in, seat_of, sharers_of, Roster}
 use Rattle.node_core.specs.Starts.{start_state, starts}
 use Rattle.node_core.specs.Turns.{Turned, begins, takes, turned}
@@ -365,14 +366,18 @@ some_weight p place letters.Stop = omega arith
 
 pub hears_lower : HearsLower
 unfolding node_heard node_left outcome_left
-hears_lower p script place letter n keeps = by n.body refl
+hears_lower p script place letter n keeps mail = by (order_of letter) mail
   where
-    by : (body : Option Body) → n.body ≡ body → outcome_left p place (node_heard_by p script place letter n body) < left_by p place n.slot.node n.body + weight p place letter
-    by None same = let some = some_weight p place letter in omega (arith, some)
-    by (Some b) same =
+    live : (body : Option Body) → n.body ≡ body → outcome_left p place (node_heard_by p script place letter n body) < left_by p place n.slot.node n.body + weight p place letter
+    live None same = let some = some_weight p place letter in omega (arith, some)
+    live (Some b) same =
         let whole : left_by p place n.slot.node n.body ≡ body_left p place n.slot.node b = ap (left_by p place n.slot.node) same in
         let less = letter_hears p script place n keeps b letter in
         omega (arith, whole, less)
+
+    by : (o : Option Order) → is_none o ≡ true → outcome_left p place (node_heard_as p script place letter n o) < left_by p place n.slot.node n.body + weight p place letter
+    by None h = live n.body refl
+    by (Some order) h = absurd (let e : false ≡ true = h in cc)
 
 -- ---- the start
 

@@ -1,6 +1,6 @@
 -- What pieces do with letters, and the laws of hearing and packing.
 use Rattle.std.proofs.Common.{◌≡◌, ℕ, ◌<◌, ◌≤◌, inl, Bool, true, false, cond, List, [], ◌∷◌, ◌++◌, refl, ap, sym, ◌∙◌, arith, subst, Option, Some, None}
-use Rattle.std.specs.Prelude.{◌⊎◌, ◌&&◌, ◌||◌, ◌==◌, IfSome, not, nat_lt}
+use Rattle.std.specs.Prelude.{◌⊎◌, ◌&&◌, ◌||◌, ◌==◌, IfSome, is_none, not, nat_lt}
 use Rattle.std.specs.List.{AllByRecursion}
 use Rattle.std.proofs.lemmas.Bool.{eqb-true, eq-eqb, ltb-true}
 use Rattle.std.proofs.lemmas.Bool.Decides.{nat_tests}
@@ -14,12 +14,13 @@ use Rattle.letter_post.specs.declared.letter.Letter.{Letter}
 use Rattle.letter_post.specs.declared.letter.Letter.TheVariants as letters
 use Rattle.letter_post.specs.declared.letter.Sent.{Sent}
 use Rattle.letter_post.specs.declared.stamp.Stamp.{Stamp}
+use Rattle.letter_post.specs.Orders.{Order, order_of}
 use Rattle.letter_post.specs.Stamps.{same_stamp}
 use Rattle.pup_state.specs.declared.piece.Piece.{Piece}
 use Rattle.node_core.specs.declared.piece.Held.{Held}
 use Rattle.node_core.specs.Keeps.{Alive, Keeps}
 use Rattle.node_core.specs.Mail.{BodyDid, Did, Got, HearsMove, HeldSince, In, IsAt, IsSomeAs, Moves, PacksMove, SentIsAt}
-use Rattle.node_core.specs.Nodes.{Body, Heard, NodeState, body_heard, body_packed, compared, is_new, node_heard, node_packed, pack_sends, parcel_heard, partial_heard, piece_heard, piece_kept, piece_of, share_heard, taken_at, to_slot, total_heard, total_taken, unmoved, verdict_sent, with_body, with_fresh, with_other}
+use Rattle.node_core.specs.Nodes.{Body, Heard, NodeState, body_heard, body_packed, compared, is_new, node_heard, node_heard_as, node_heard_by, node_packed, pack_sends, parcel_heard, partial_heard, piece_heard, piece_kept, piece_of, share_heard, taken_at, to_slot, total_heard, total_taken, unmoved, verdict_sent, with_body, with_fresh, with_other}
 use Rattle.node_core.specs.Rosters.{number_in, seat_of, sharers_of}
 use Rattle.node_core.proofs.Heard.{mail_moves, mailed_in, mails_mapped, mails_taken, paid_log, parcel_done, share_done, share_moves, shared_log, total_done}
 use Rattle.node_core.proofs.Lists.{if_some}
@@ -215,16 +216,20 @@ module _ (p : Plan) (script : List Fault) (place : List ℕ) (K : ℕ) (n : Node
 
 pub hears_move : HearsMove
 unfolding node_heard
-hears_move p script place letter K n keeps holds at = let r = by n.body refl keeps.body in record { moves = r.0; done = r.1 }
+hears_move p script place letter K n keeps holds at mail = let r = by (order_of letter) mail in record { moves = r.0; done = r.1 }
   where
-    by : (body : Option Body) → n.body ≡ body → IfSome body (Alive p script place n) →
-        (m : Moves p place K n (Rattle.node_core.specs.Nodes.node_heard_by p script place letter n body)) ×
-        ((log : List Sent) → Did p (log ++ (Rattle.node_core.specs.Nodes.node_heard_by p script place letter n body).out) letter (Rattle.node_core.specs.Nodes.node_heard_by p script place letter n body).node)
-    by None is alive = (silent_moves p place K n, λ log. subst (λ o. IfSome o (λ (c : Body). BodyDid p (log ++ []) n c letter)) (sym is) tt)
-    by (Some b) is alive =
+    live : (body : Option Body) → n.body ≡ body → IfSome body (Alive p script place n) →
+        (m : Moves p place K n (node_heard_by p script place letter n body)) × ((log : List Sent) → Did p (log ++ (node_heard_by p script place letter n body).out) letter (node_heard_by p script place letter n body).node)
+    live None is alive = (silent_moves p place K n, λ log. subst (λ o. IfSome o (λ (c : Body). BodyDid p (log ++ []) n c letter)) (sym is) tt)
+    live (Some b) is alive =
         let h = heard_on p script place K n keeps b alive letter at in
         let after : Heard = body_heard p script place n.slot n.last.stamp n.roster b letter in
         (node_moves p place K n b after.body after.out is h.moves, h.done)
+
+    by : (o : Option Order) → is_none o ≡ true →
+        (m : Moves p place K n (node_heard_as p script place letter n o)) × ((log : List Sent) → Did p (log ++ (node_heard_as p script place letter n o).out) letter (node_heard_as p script place letter n o).node)
+    by None h = live n.body refl keeps.body
+    by (Some order) h = absurd (let e : false ≡ true = h in cc)
 
 pub packs_move : PacksMove
 unfolding node_packed

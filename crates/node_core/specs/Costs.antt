@@ -1,5 +1,5 @@
 -- What a node can still do, at most.
-use Rattle.std.specs.Prelude.{◌≡◌, ℕ, zero, suc, ◌+◌, ◌-◌, ◌<◌, ◌==◌, Bool, false, if◌then◌else◌, List, [], ◌∷◌, length, is_some, Option, Some, None}
+use Rattle.std.specs.Prelude.{◌≡◌, ℕ, zero, suc, ◌+◌, ◌-◌, ◌<◌, ◌==◌, Bool, true, false, if◌then◌else◌, List, [], ◌∷◌, length, is_some, Option, Some, None}
 use Rattle.chare_base.specs.declared.message.Port.{Port}
 use Rattle.chare_base.specs.declared.message.Port.TheVariants as ports
 use Rattle.chare_base.specs.declared.plan.ElementId.{ElementId}
@@ -19,6 +19,7 @@ use Rattle.fault_script.specs.declared.fault.Fault.{Fault}
 use Rattle.letter_post.specs.declared.letter.Letter.{Letter}
 use Rattle.letter_post.specs.declared.letter.Letter.TheVariants as letters
 use Rattle.letter_post.specs.declared.letter.Sent.{Sent}
+use Rattle.letter_post.specs.Orders.{is_mail}
 use Rattle.letter_post.specs.Truth.{in_array}
 use Rattle.object_steps.specs.Objects.{Progress}
 use Rattle.object_steps.specs.Partial.{given_at}
@@ -168,8 +169,9 @@ abbrev pub PacksLower : Type 0
 PacksLower = (p : Plan) (script : List Fault) (place : List ℕ) (k : ℕ) (n : NodeState) (b : Body) → n.body ≡ Some b → b.fresh ≡ None →
     outcome_left p place (node_packed p script k n) < node_left p place n
 
+-- a letter that is no order
 abbrev pub HearsLower : Type 0
-HearsLower = (p : Plan) (script : List Fault) (place : List ℕ) (letter : Letter) (n : NodeState) → Keeps p script place n →
+HearsLower = (p : Plan) (script : List Fault) (place : List ℕ) (letter : Letter) (n : NodeState) → Keeps p script place n → is_mail letter ≡ true →
     outcome_left p place (node_heard p script place letter n) < node_left p place n + weight p place letter
 
 -- at the opening: every iteration of each element, and the pack

@@ -15,6 +15,10 @@ use Rattle.chare_eval.specs.Laws.{contribution_of}
 use Rattle.fault_script.specs.declared.fault.Fault.{Fault}
 use Rattle.letter_post.specs.declared.letter.BoxId.TheVariants as boxes
 use Rattle.letter_post.specs.declared.letter.Letter.{Letter}
+use Rattle.letter_post.specs.declared.letter.Letter.TheVariants as letters
+use Rattle.letter_post.specs.declared.order.LastOrder.{LastOrder}
+use Rattle.letter_post.specs.declared.stamp.Stamp.{Stamp}
+use Rattle.letter_post.specs.Orders.{FollowsOrder, GoesBack, next_order}
 use Rattle.letter_post.specs.Stamps.{lines_of}
 use Rattle.letter_post.specs.Truth.{Holds, IsPiece, Says, contributions_of, node_members}
 use Rattle.object_steps.specs.Laws.{Follows}
@@ -112,10 +116,10 @@ pub record Keeps (p : Plan) (script : List Fault) (place : List ℕ) (n : NodeSt
 
 -- ---- laws
 
--- it keeps what it kept, and says what is true
-pub record KeepsOn (p : Plan) (script : List Fault) (place : List ℕ) (n : NodeState) (o : Outcome) : Type 0 where
+-- it keeps what it kept, under this last order, and says what is true
+pub record KeepsOn (p : Plan) (script : List Fault) (place : List ℕ) (n : NodeState) (order : LastOrder) (o : Outcome) : Type 0 where
   pub slot : o.node.slot ≡ n.slot
-  pub last : o.node.last ≡ n.last
+  pub last : o.node.last ≡ order
   pub roster : o.node.roster ≡ n.roster
   pub keeps : Keeps p script place o.node
   pub says : AllByRecursion (Says p script place) o.out
@@ -133,19 +137,35 @@ Capped limit n = CappedBody limit n.body
 
 abbrev pub RunsKeep : Type 0
 RunsKeep = (p : Plan) (script : List Fault) (place : List ℕ) (limit e : ℕ) (n : NodeState) → Keeps p script place n → Capped limit n →
-    KeepsOn p script place n (outcome_of (node_ran p script place limit e n))
+    KeepsOn p script place n n.last (outcome_of (node_ran p script place limit e n))
 
 abbrev pub TurnsKeep : Type 0
 TurnsKeep = (p : Plan) (script : List Fault) (place : List ℕ) (limit : ℕ) (n : NodeState) → Keeps p script place n → Capped limit n →
-    KeepsOn p script place n (outcome_of (node_turned p script place limit n))
+    KeepsOn p script place n n.last (outcome_of (node_turned p script place limit n))
 
 abbrev pub PacksKeep : Type 0
 PacksKeep = (p : Plan) (script : List Fault) (place : List ℕ) (k : ℕ) (n : NodeState) → Keeps p script place n → all_at k n ≡ true → k ≤ p.iterations →
-    KeepsOn p script place n (node_packed p script k n)
+    KeepsOn p script place n n.last (node_packed p script k n)
 
+-- a true letter, which follows the last order if it is one
 abbrev pub HearsKeep : Type 0
 HearsKeep = (p : Plan) (script : List Fault) (place : List ℕ) (letter : Letter) (n : NodeState) → Keeps p script place n → Holds p script place (boxes.Slot n.slot) letter →
-    KeepsOn p script place n (node_heard p script place letter n)
+    FollowsOrder p script n.last letter → KeepsOn p script place n (next_order n.last letter) (node_heard p script place letter n)
+
+-- A live node with a new base waits, has no other piece of its own, and all its elements are where the base is.
+pub record RestsAt (k : ℕ) (b : Body) : Type 0 where
+  pub waits : b.waits ≡ true
+  pub fresh : b.fresh ≡ None
+  pub based : b.base.iteration ≡ k
+  pub objects : AllAt k b.objects
+
+pub record OrdersRest : Type 0 where
+  pub restores : (p : Plan) (script : List Fault) (place : List ℕ) (n : NodeState) (stamp : Stamp) (k : ℕ) (live : LineSet) → Keeps p script place n → GoesBack script n.last stamp k →
+      IfSome (node_heard p script place (letters.Restore stamp k live) n).node.body (RestsAt k)
+  pub commits : (p : Plan) (script : List Fault) (place : List ℕ) (n : NodeState) (stamp : Stamp) (k : ℕ) (live : LineSet) →
+      IfSome (node_heard p script place (letters.Commit stamp k live) n).node.body (RestsAt k)
+  pub takes : (p : Plan) (script : List Fault) (place : List ℕ) (n : NodeState) (stamp : Stamp) (k : ℕ) (live : LineSet) (piece : Piece) → Keeps p script place n →
+      Holds p script place (boxes.Slot n.slot) (letters.Take stamp k live piece) → IfSome (node_heard p script place (letters.Take stamp k live piece) n).node.body (RestsAt k)
 
 -- what a node keeps is what its calls ask
 abbrev pub KeepsFits : Type 0

@@ -1,8 +1,10 @@
 pub mod Rosters
 pub mod Gatherings
 pub mod Turns
+pub mod Loads
 pub mod Nodes
 pub mod Starts
 pub mod Keeps
+pub mod LoadLaws
 pub mod Mail
 pub mod Costs

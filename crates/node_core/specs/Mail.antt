@@ -18,6 +18,7 @@ use Rattle.letter_post.specs.declared.letter.Letter.{Letter}
 use Rattle.letter_post.specs.declared.letter.Letter.TheVariants as letters
 use Rattle.letter_post.specs.declared.letter.Sent.{Sent}
 use Rattle.letter_post.specs.declared.stamp.Stamp.{Stamp}
+use Rattle.letter_post.specs.Orders.{is_mail}
 use Rattle.letter_post.specs.Stamps.{same_stamp}
 use Rattle.letter_post.specs.Truth.{Holds}
 use Rattle.object_steps.specs.Objects.{Progress, key_of}
@@ -201,9 +202,10 @@ pub record HearsMoveOn (p : Plan) (script : List Fault) (place : List ℕ) (lett
   -- what is heard is done
   pub done : (log : List Sent) → Did p (log ++ (node_heard p script place letter n).out) letter (node_heard p script place letter n).node
 
+-- a letter that is no order
 abbrev pub HearsMove : Type 0
 HearsMove = (p : Plan) (script : List Fault) (place : List ℕ) (letter : Letter) (K : ℕ) (n : NodeState) → Keeps p script place n → Holds p script place (boxes.Slot n.slot) letter → IsAt K letter →
-    HearsMoveOn p script place letter K n
+    is_mail letter ≡ true → HearsMoveOn p script place letter K n
 
 -- an element of a node that is past its contribution of an iteration
 pub record HasContributed (p : Plan) (r k : ℕ) (o : Progress) : Type 0 where

@@ -1,6 +1,6 @@
 -- A slot's node, and what each event makes of it.
-use Rattle.std.specs.Prelude.{ℕ, ℤ, Bool, true, false, ◌==◌, ◌&&◌, ◌||◌, not, if◌then◌else◌, List, [], ◌∷◌, ◌++◌, length, is_some, nat_lt, map, min, slice_get, slice_index_or, slice_set, Option, Some, None}
-use Rattle.std.specs.List.{list_all}
+use Rattle.std.specs.Prelude.{ℕ, ℤ, Bool, true, false, ◌==◌, ◌&&◌, ◌||◌, not, if◌then◌else◌, List, [], ◌∷◌, ◌++◌, length, is_none, is_some, nat_lt, map, min, nat_le, slice_get, slice_index_or, slice_set, Option, Some, None}
+use Rattle.std.specs.List.{filter, list_all}
 use Rattle.chare_base.specs.declared.message.EntryId.{EntryId}
 use Rattle.chare_base.specs.declared.message.Payload.{Payload}
 use Rattle.chare_base.specs.declared.message.Port.TheVariants as ports
@@ -14,6 +14,7 @@ use Rattle.chare_base.specs.declared.slots.SlotId.{SlotId}
 use Rattle.chare_base.specs.Elements.{place_of}
 use Rattle.chare_base.specs.Entries.{reduction_of}
 use Rattle.chare_base.specs.Flip.{Flip}
+use Rattle.chare_base.specs.Placing.{members}
 use Rattle.chare_eval.specs.declared.effects.Outgoing.{Outgoing}
 use Rattle.chare_eval.specs.declared.effects.Outgoing.TheVariants as outgoing
 use Rattle.chare_eval.specs.Stage.{one_value}
@@ -26,6 +27,8 @@ use Rattle.letter_post.specs.declared.letter.Letter.TheVariants as letters
 use Rattle.letter_post.specs.declared.letter.Sent.{Sent}
 use Rattle.letter_post.specs.declared.order.LastOrder.{LastOrder}
 use Rattle.letter_post.specs.declared.stamp.Stamp.{Stamp}
+use Rattle.letter_post.specs.Orders.{Order, next_by, order_of, stamp_in}
+use Rattle.letter_post.specs.Orders as orders
 use Rattle.letter_post.specs.Stamps.{lines_of, same_stamp}
 use Rattle.buddy_compare.specs.Comparing.{verdict_of}
 use Rattle.pup_state.specs.declared.piece.Piece.{Piece}
@@ -36,6 +39,7 @@ use Rattle.node_core.specs.declared.turn.Sender.{Sender}
 use Rattle.node_core.specs.declared.turn.Turn.{Turn}
 use Rattle.node_core.specs.declared.turn.Turn.TheVariants as turns
 use Rattle.node_core.specs.Gatherings.{Gathering, Tallied, tallied}
+use Rattle.node_core.specs.Loads.{loaded}
 use Rattle.node_core.specs.Rosters.{Roster, count_of, number_in, rank_of, seat_of, sharers_of}
 use Rattle.node_core.specs.Turns.{Turned, begins, can_run, is_at, takes, turned}
 
@@ -69,6 +73,10 @@ pub record NodeState : Type 0 where
   pub body : Option Body
   -- whether memory ran out: then it is of no further use
   pub over : Bool
+
+-- a node from its parts
+abbrev pub node_from : SlotId → LastOrder → Roster → Bool → Option Body → NodeState
+node_from slot last roster over body = record { slot = slot; last = last; roster = roster; body = body; over = over }
 
 -- a node after an event, and the letters that it sent
 pub record Outcome : Type 0 where
@@ -250,6 +258,11 @@ object_of n e (Some b) = seated_in b.objects (seat_of n.roster e)
 abbrev pub can_run_by : Plan → ℕ → Option Progress → Bool
 can_run_by p limit None = false
 can_run_by p limit (Some o) = can_run p limit o
+
+-- the iterations that an object has completed, where it is between two
+abbrev pub completed_by : Option Progress → Option ℕ
+completed_by None = None
+completed_by (Some o) = if is_none o.step then Some o.done else None
 
 unfoldable pub node_can_run : Plan → ℕ → NodeState → ℕ → Bool
 node_can_run p limit n e = can_run_by p limit (object_of n e n.body)
@@ -442,7 +455,7 @@ abbrev pub piece_heard : Plan → Stamp → ℕ → Stamp → Piece → Body →
 piece_heard p own node stamp piece b =
     if piece.node == node && is_new stamp piece b.other then piece_kept p own b (record { stamp = stamp; piece = piece }) else unmoved b
 
--- messages, shares and totals count where the whole stamp is the node's own
+-- Messages, shares and totals count where the whole stamp is the node's own. Orders are obeyed elsewhere.
 abbrev pub body_heard : Plan → List Fault → List ℕ → SlotId → Stamp → Roster → Body → Letter → Heard
 body_heard p script place slot own roster b (letters.Parcel stamp entry k to payload) = if same_stamp stamp own then parcel_heard roster k entry to payload b else unmoved b
 body_heard p script place slot own roster b (letters.Partial stamp r k node value) =
@@ -463,11 +476,119 @@ abbrev pub node_heard_by : Plan → List Fault → List ℕ → Letter → NodeS
 node_heard_by p script place letter n None = silent n
 node_heard_by p script place letter n (Some b) = with_heard n (body_heard p script place n.slot n.last.stamp n.roster b letter)
 
+-- ---- orders
+
+-- what an order leaves of a slot's node, None where it is spent, and the letters that were sent
+pub record Obeyed : Type 0 where
+  pub body : Option Body
+  pub out : List Sent
+
+abbrev pub quietly : Option Body → Obeyed
+quietly body = record { body = body; out = [] }
+
+-- a node at a piece, which is its base, and waits for Resume
+abbrev pub begun_with : Piece → Option Held → LineSet → List Progress → Body
+begun_with base other live objects = record {
+  objects = objects;
+  gatherings = [];
+  totals = [];
+  base = base;
+  fresh = None;
+  other = other;
+  live = live;
+  loan = None;
+  waits = true;
+}
+
+-- its elements are read out of the piece's bytes; a piece that can't be read leaves none
+abbrev pub begun_by : Piece → Option Held → LineSet → Option (List Progress) → Option Body
+begun_by base other live None = None
+begun_by base other live (Some objects) = Some (begun_with base other live objects)
+
+abbrev pub begun_at : Plan → List ℕ → ℕ → LineSet → Piece → Option Held → Option Body
+begun_at p place k live base other = if base.iteration == k then begun_by base other live (loaded p (members place base.node) base.iteration base.bytes) else None
+
+-- back at its base, with its buddy's piece
+abbrev pub restored : Plan → List ℕ → ℕ → LineSet → Option Body → Option Body
+restored p place k live None = None
+restored p place k live (Some b) = begun_at p place k live b.base b.other
+
+-- at a piece that came
+abbrev pub taken_up : Plan → List ℕ → ℕ → ℕ → LineSet → Piece → Option Body
+taken_up p place j k live piece = if piece.node == j then begun_at p place k live piece None else None
+
+-- of an iteration or later
+abbrev pub is_from : ℕ → Gathering → Bool
+is_from k g = nat_le k g.iteration
+
+-- The fresh piece is its base. What it gathers of iterations before is over.
+abbrev pub with_base : ℕ → LineSet → Body → Piece → Body
+with_base k live b piece = record {
+  objects = b.objects;
+  gatherings = filter (is_from k) b.gatherings;
+  totals = filter (is_from k) b.totals;
+  base = piece;
+  fresh = None;
+  other = b.other;
+  live = live;
+  loan = None;
+  waits = true;
+}
+
+abbrev pub committed_with : ℕ → LineSet → Body → Option Piece → Option Body
+committed_with k live b None = None
+committed_with k live b (Some piece) = if piece.iteration == k && all_at_of k b.objects then Some (with_base k live b piece) else None
+
+-- at its fresh piece, where all its elements are where it packed
+abbrev pub committed : ℕ → LineSet → Option Body → Option Body
+committed k live None = None
+committed k live (Some b) = committed_with k live b b.fresh
+
+abbrev pub awakened : Body → Body
+awakened b = record {
+  objects = b.objects;
+  gatherings = b.gatherings;
+  totals = b.totals;
+  base = b.base;
+  fresh = b.fresh;
+  other = b.other;
+  live = b.live;
+  loan = b.loan;
+  waits = false;
+}
+
+-- replica 1 sends a piece that it holds fresh to its buddy again
+abbrev pub sent_again : SlotId → Stamp → Option Piece → List Sent
+sent_again slot stamp None = []
+sent_again slot stamp (Some piece) = if slot.replica == 1 then to_slot 0 slot.node (letters.Piece stamp piece) ∷ [] else []
+
+abbrev pub resumed : SlotId → Stamp → Option Body → Obeyed
+resumed slot stamp None = quietly None
+resumed slot stamp (Some b) = record { body = Some (awakened b); out = sent_again slot stamp b.fresh }
+
+abbrev pub obeyed_by : Plan → List ℕ → SlotId → Stamp → Option Body → Order → Obeyed
+obeyed_by p place slot own body (orders.Restore stamp k live) = quietly (restored p place k live body)
+obeyed_by p place slot own body (orders.Commit stamp k live) = quietly (committed k live body)
+obeyed_by p place slot own body (orders.Resume stamp) = resumed slot own body
+obeyed_by p place slot own body (orders.Take stamp k live piece) = quietly (taken_up p place slot.node k live piece)
+
+-- an order to the other replica leaves no node
+abbrev pub obeyed : Plan → List ℕ → SlotId → Stamp → Option Body → Order → Obeyed
+obeyed p place slot own body order = if (stamp_in order).replica == slot.replica then obeyed_by p place slot own body order else quietly None
+
+-- no order leaves all as it is
+abbrev pub obeyed_as : Plan → List ℕ → SlotId → Stamp → Option Body → Option Order → Obeyed
+obeyed_as p place slot own body None = quietly body
+obeyed_as p place slot own body (Some order) = obeyed p place slot own body order
+
+abbrev pub with_obeyed : NodeState → LastOrder → Obeyed → Outcome
+with_obeyed n last o = record { node = node_from n.slot last n.roster n.over o.body; out = o.out }
+
+-- What is no order is mail.
+abbrev pub node_heard_as : Plan → List Fault → List ℕ → Letter → NodeState → Option Order → Outcome
+node_heard_as p script place letter n None = node_heard_by p script place letter n n.body
+node_heard_as p script place letter n (Some order) = with_obeyed n (next_by n.last (Some order)) (obeyed p place n.slot n.last.stamp n.body order)
+
 -- A node hears a letter.
 unfoldable pub node_heard : Plan → List Fault → List ℕ → Letter → NodeState → Outcome
-node_heard p script place letter n = node_heard_by p script place letter n n.body
-
--- ---- a node from its parts
-
-abbrev pub node_from : SlotId → LastOrder → Roster → Bool → Option Body → NodeState
-node_from slot last roster over body = record { slot = slot; last = last; roster = roster; body = body; over = over }
+node_heard p script place letter n = node_heard_as p script place letter n (order_of letter)

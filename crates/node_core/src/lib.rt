@@ -5,15 +5,21 @@
 //! sends the total with the last share. `specs/Nodes` says in one equation for each call what it makes of a node and
 //! which letters it sends.
 //!
-//! Two laws hold over these definitions. `nodes_keep`: under the flips of its stamp a node's elements, what it gathers
-//! and its pieces are the definition's, and each letter that it sends is true. `nodes_move`: nothing that is sent is
-//! lost; a node has sent whatever it owes. A world of nodes and a worker that drives one in a thread stand on this crate.
+//! The conductor's orders lead a node back to its base, make its fresh piece the base, or make a node of a piece that
+//! comes with them. `loading` reads elements out of a piece.
+//!
+//! Laws over these definitions stand in `laws`. `nodes_keep`: under the flips of its last order's stamp a node's
+//! elements, what it gathers and its pieces are the definition's, and each letter that it sends is true. `nodes_move`:
+//! as long as no order comes, nothing that is sent is lost; a node has sent whatever it owes. `nodes_cost`: each event
+//! leaves less to do. A world of nodes and a worker that drives one in a thread stand on this crate.
 #![tactic(auto)]
 
 pub mod laws;
 mod live;
+pub mod loading;
 pub mod node;
 mod object;
+mod orders;
 mod passing;
 pub mod piece;
 mod roster;

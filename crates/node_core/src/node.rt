@@ -5,13 +5,15 @@ ghost use Rattle.std.specs.List.{AllByRecursion};
 ghost use Rattle.chare_base.specs.Elements.{elements};
 ghost use Rattle.chare_base.specs.Placing.{members};
 ghost use Rattle.fault_script.specs.Lines.{faults_of};
+ghost use Rattle.letter_post.specs.Orders.{next_order, order_of};
 ghost use Rattle.object_steps.specs.Objects.{Fits};
 ghost use Rattle.node_core.specs.Keeps.{Fitted, FittedBody};
-ghost use Rattle.node_core.specs.Nodes.{all_at, can_run_by, first_running, has_packed, next_begin, node_can_run, node_from, node_heard, node_heard_by, node_packed, node_packed_by, node_ran, node_ran_by, node_turned, rests, seated_in};
+ghost use Rattle.node_core.specs.Nodes.{all_at, can_run_by, first_running, has_packed, next_begin, node_can_run, node_from, node_heard, node_heard_as, node_heard_by, node_packed, node_packed_by, node_ran, node_ran_by, node_turned, rests, seated_in};
 ghost use Rattle.node_core.specs.Starts.{flips_replica, replica_flips, start_state, started_if, starts};
 
 use crate::live::{Live, all_at, first_running, idle, next_begin};
 use crate::object::can_run;
+use crate::orders::obey;
 use crate::piece::pack_objects;
 use crate::roster::Seats;
 use crate::turn::Turn;
@@ -226,6 +228,11 @@ impl Node {
     /// Piece is kept where it takes the place of none, of one of an older epoch or of one at another iteration, and is
     /// then compared where the own piece at its iteration is there.
     ///
+    /// Restore, Commit, Take and Resume are orders: the last one's stamp is the node's from then on, also of a spent one.
+    /// Restore leads the elements back to the base; Commit makes the fresh piece the base, where it and all elements are
+    /// at the order's iteration; Take makes a node of the piece that it brings, also of a spent one. After each of them
+    /// the node waits, and Resume ends that. An order that it can't obey leaves it spent: it drops what it hears.
+    ///
     /// `Memory`: an allocation was refused; the node is over.
     #[tactic(auto, unfolding(crate::specs::Nodes::node_heard))]
     pub fn hear<M: Placement>(
@@ -236,6 +243,7 @@ impl Node {
         map: &M,
         letter: Letter,
     ) -> Result<Outbox, Memory>
+        requires { length (M.place map.now) ≡ elements plan.now }
         ensures ok { IfOk result (λ out. record { node = self.new; out = out } ≡ node_heard plan.now (faults_of script.now) (M.place map.now) letter self.old) }
         ensures err { OnErr result (self.new.over ≡ true) }
         ensures over { self.old.over ≡ true → IsErr result }
@@ -243,6 +251,7 @@ impl Node {
         if self.over {
             return Err(Memory);
         }
+        let last = self.last.after(&letter);
         match hear_body(
             alloc,
             plan,
@@ -254,7 +263,10 @@ impl Node {
             letter,
             &mut self.body,
         ) {
-            Ok(out) => Ok(out),
+            Ok(out) => {
+                self.last = last;
+                Ok(out)
+            }
             Err(Memory) => {
                 self.over = true;
                 Err(Memory)
@@ -408,6 +420,29 @@ fn run_body<M: Placement>(
 }
 
 fn hear_body<M: Placement>(
+    alloc: Global,
+    plan: &Plan,
+    script: &Script,
+    map: &M,
+    slot: SlotId,
+    last: LastOrder,
+    roster: &Seats,
+    letter: Letter,
+    body: &mut Option<Live>,
+) -> Result<Outbox, Memory>
+    requires { length (M.place map.now) ≡ elements plan.now }
+    ensures { (over : Bool) → IfOk result (λ out. record { node = node_from slot (next_order last letter) roster.now over body.new; out = out } ≡ node_heard_as plan.now (faults_of script.now) (M.place map.now) letter (node_from slot last roster.now over body.old) (order_of letter)) }
+{
+    if letter.is_mail() {
+        let out = hear_mail(alloc, plan, script, map, slot, last, roster, letter, body)?;
+        Ok(out)
+    } else {
+        let out = obey(alloc, plan, map, slot, last.stamp, letter, body)?;
+        Ok(out)
+    }
+}
+
+fn hear_mail<M: Placement>(
     alloc: Global,
     plan: &Plan,
     script: &Script,

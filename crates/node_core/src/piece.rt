@@ -1,9 +1,10 @@
 //! The pieces that a node keeps.
 
-ghost use Rattle.std.specs.Prelude.{◌≡◌, ◌++◌, Some, OnOk, IfOk};
+ghost use Rattle.std.specs.Prelude.{◌≡◌, ◌++◌, ◌∷◌, [], Some, OnOk, IfOk};
 ghost use Rattle.std.specs.List.{AllByRecursion};
 ghost use Rattle.object_steps.specs.Objects.{Fits};
-ghost use Rattle.node_core.specs.Nodes.{compared, is_new, objects_records, pack_sends, piece_of};
+ghost use Rattle.letter_post.specs.declared.letter.Letter.TheVariants as letters;
+ghost use Rattle.node_core.specs.Nodes.{compared, is_new, objects_records, pack_sends, piece_of, sent_again, to_slot};
 
 use buddy_compare::compare::compare;
 use chare_base::bytes::Bytes;
@@ -135,17 +136,48 @@ pub(crate) fn send_packed(
     ensures { OnOk result (out.new ≡ out.old ++ pack_sends plan.now slot stamp piece.now other.now) }
 {
     if slot.replica == 1 {
-        let buddy = SlotId {
-            replica: 0,
-            node: slot.node,
-        };
-        let letter = Letter::Piece {
-            stamp,
-            piece: piece.copy(alloc)?,
-        };
-        out.send(BoxId::Slot(buddy), letter)?;
-        Ok(())
+        send_piece(alloc, slot.node, stamp, piece, out)
     } else {
         send_verdict(alloc, plan, stamp, piece, other, out)
+    }
+}
+
+// Sends a piece to the buddy in replica 0.
+fn send_piece(
+    alloc: Global,
+    node: u16,
+    stamp: Stamp,
+    piece: &Piece,
+    out: &mut Outbox,
+) -> Result<(), Memory>
+    ensures { OnOk result (out.new ≡ out.old ++ to_slot 0 node (letters.Piece stamp piece.now) ∷ []) }
+{
+    let buddy = SlotId { replica: 0, node };
+    let letter = Letter::Piece {
+        stamp,
+        piece: piece.copy(alloc)?,
+    };
+    out.send(BoxId::Slot(buddy), letter)?;
+    Ok(())
+}
+
+// Sends what replica 1 sends again as it goes on.
+pub(crate) fn send_again(
+    alloc: Global,
+    slot: SlotId,
+    stamp: Stamp,
+    fresh: &Option<Piece>,
+    out: &mut Outbox,
+) -> Result<(), Memory>
+    ensures { OnOk result (out.new ≡ out.old ++ sent_again slot stamp fresh.now) }
+{
+    match fresh {
+        None => Ok(()),
+        Some(piece) => {
+            if slot.replica == 1 {
+                return send_piece(alloc, slot.node, stamp, piece, out);
+            }
+            Ok(())
+        }
     }
 }

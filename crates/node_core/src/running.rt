@@ -54,4 +54,24 @@ impl Node {
             },
         }
     }
+
+    /// How many iterations the element of a seat has completed, where it is between two; None where it is inside one, and
+    /// where the seat is nobody's.
+    pub fn completed_seat(&self, seat: usize) -> Option<u64>
+        ensures { result ≡ completed_by (slice_get (objects_of self.now.body) seat) }
+    {
+        match self.live() {
+            None => None,
+            Some(body) => match body.objects.get(seat) {
+                None => None,
+                Some(object) => {
+                    if object.is_at_top() {
+                        Some(object.done())
+                    } else {
+                        None
+                    }
+                }
+            },
+        }
+    }
 }

@@ -1,6 +1,8 @@
 //! Contributions to reductions, as a node gathers them.
 
 ghost use Rattle.std.specs.Prelude.{◌≡◌, ◌≤◌, ◌<◌, length, IfSome, IfOk};
+ghost use Rattle.std.specs.List.{filter};
+ghost use Rattle.node_core.specs.Nodes.{is_from};
 ghost use Rattle.node_core.specs.Gatherings.{gathering, gathering_at, given_to, is_of, settled_in, tallied};
 ghost use Rattle.object_steps.specs.Partial.{whole};
 
@@ -67,6 +69,12 @@ impl Tally {
         self.partial.whole()
     }
 
+    fn is_from(&self, k: u64) -> bool
+        ensures { result ≡ is_from k self.now }
+    {
+        k <= self.iteration
+    }
+
     fn is_of(&self, reduction: ReductionId, iteration: u64) -> bool
         ensures { result ≡ is_of reduction iteration self.now }
     {
@@ -125,4 +133,11 @@ fn settle(all: &mut Vec<Tally>, at: usize, rank: u32, value: i64) -> Option<i64>
         all.remove(at);
     }
     total
+}
+
+// What is gathered of iterations before this one is over.
+pub(crate) fn drop_before(k: u64, all: &mut Vec<Tally>)
+    ensures { all.new.items ≡ filter (is_from k) all.old.items }
+{
+    all.retain(|tally| tally.is_from(k));
 }

@@ -13,7 +13,7 @@ use Rattle.run_ledger.specs.declared.record.Record.TheVariants.{Accept, Differ, 
 use Rattle.run_ledger.specs.Lines.{accepted, adopted, crash_at, crash_slot, fault_of, flip_spent, flips_where, fresh_line, shapes, slot_if, slot_in, spent_line, with_spent}
 use Rattle.run_ledger.specs.Ledgers.{LedgerState, after, lineage, with_crash}
 use Rattle.run_ledger.specs.Conditions.{unlawful}
-use Rattle.run_ledger.specs.Laws.{AcceptsRebase, AdoptsRebase, AllSettled, CrashesKeepLineages, DiffersKeepTheBase, FaultsStay, LineagesAreSets, LineagesShareTheBase, Rebases, Settled, StaysTidy, Tidy}
+use Rattle.run_ledger.specs.Laws.{AcceptsMakeTheBase, AcceptsRebase, AdoptsRebase, AllSettled, CrashesKeepLineages, DiffersKeepTheBase, FaultsStay, LineagesAreSets, LineagesShareTheBase, Rebases, Settled, StaysTidy, Tidy}
 use Rattle.run_ledger.proofs.Lineages.{BaseMoves, accepted_moves, adopted_moves, at_twice, base_part, before_is, below, flips_at, from_is, line_of, put, sets_select, where_next}
 use Rattle.run_ledger.proofs.Spending.{flips_less, less_based, less_faults, less_settled, spent_less}
 
@@ -47,6 +47,9 @@ moved_rebases f l new k from is moves tidy h = record {
 
 pub accepts_rebase : AcceptsRebase
 accepts_rebase l k tidy h = moved_rebases (accepted k) l (after l (Accept k)) k 0 refl (accepted_moves k) tidy h
+
+pub accepts_make_the_base : AcceptsMakeTheBase
+accepts_make_the_base l k = (accepted_moves k).base l.lines ∙ sym (before_is k (lineage 0 l))
 
 pub adopts_rebase : AdoptsRebase
 adopts_rebase l k from tidy h = moved_rebases (adopted k from) l (after l (Adopt k from)) k from refl (adopted_moves k from) tidy h

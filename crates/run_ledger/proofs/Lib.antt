@@ -2,11 +2,10 @@ mod Bits
 mod Counts
 mod Checkpoints
 mod Bare
-mod Folds
 mod Lineages
 mod Spending
 mod Counting
-mod Allowed
+pub mod Allowed
 mod Following
 mod OneReplica
 mod Right

@@ -10,7 +10,7 @@ use Rattle.fault_script.specs.declared.fault.Fault.{Fault}
 use Rattle.fault_script.specs.declared.fault.Fault.TheVariants as faults
 use Rattle.fault_script.specs.Lines.{flips_among, selection, set_of, with_flip_of}
 use Rattle.run_ledger.specs.declared.line.LedgerLine.{LedgerLine}
-use Rattle.run_ledger.specs.Later.{flips_from}
+use Rattle.chare_eval.specs.Later.{flips_from}
 use Rattle.run_ledger.specs.Lines.{accepted, adopted, fault_of, flips_where, is_based, is_below, is_flip_below, is_flip_of, rebased, shapes, spent_line}
 use Rattle.run_ledger.specs.Laws.{AllSettled, Settled}
 

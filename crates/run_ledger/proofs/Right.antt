@@ -24,7 +24,7 @@ use Rattle.run_ledger.specs.Lawful.{Allows, StepsFrom, checkpoint}
 use Rattle.run_ledger.specs.Laws.{AllSettled, Settled, Tidy}
 use Rattle.run_ledger.specs.Apart.{AdoptsUnstruck, AllRight, AllUnstruck, Apart, RecordsAreRight, Right, StrongRecordsAreRight, flips_on, is_live_below}
 use Rattle.run_ledger.proofs.Allowed.{accept_bounds, adopt_bounds, done_base, strong_adopts_none}
-use Rattle.run_ledger.proofs.Folds.{later}
+use Rattle.chare_eval.proofs.Later.{later}
 use Rattle.run_ledger.proofs.Following.{faults_stay, stays_tidy}
 use Rattle.run_ledger.proofs.Lineages.{Alike, BaseMoves, accepted_moves, adopted_moves, alike, alive, base_part, before_is, below, flips_at, from_is, later_alike, live_alike, none_where, sets_select, twice_filtered}
 use Rattle.run_ledger.proofs.Spending.{flips_less, less_based, less_faults, spent_less}

@@ -11,9 +11,9 @@ use Rattle.fault_script.specs.Lines.{flips_in}
 use Rattle.run_ledger.specs.declared.line.LedgerLine.{LedgerLine}
 use Rattle.run_ledger.specs.declared.record.Record.{Record}
 use Rattle.run_ledger.specs.declared.record.Record.TheVariants.{Accept, Differ, Crash, Adopt, Done}
-use Rattle.run_ledger.specs.Later.{flips_from}
+use Rattle.chare_eval.specs.Later.{flips_from}
 use Rattle.run_ledger.specs.Lines.{fault_of}
-use Rattle.run_ledger.specs.Ledgers.{LedgerState, after, after_all, lineage, lineage_set, opening_ledger}
+use Rattle.run_ledger.specs.Ledgers.{LedgerState, after, after_all, base_flips, lineage, lineage_set, opening_ledger}
 use Rattle.run_ledger.specs.Conditions.{unlawful}
 use Rattle.run_ledger.specs.Lawful.{Lawful}
 
@@ -72,6 +72,10 @@ pub record Rebases (l new : LedgerState) (k from : ℕ) : Type 0 where
 
 abbrev pub AcceptsRebase : Type 0
 AcceptsRebase = (l : LedgerState) (k : ℕ) → Tidy l → l.base ≤ k → Rebases l (after l (Accept k)) k 0
+
+-- and the base then has the flips below it that shaped that replica
+abbrev pub AcceptsMakeTheBase : Type 0
+AcceptsMakeTheBase = (l : LedgerState) (k : ℕ) → base_flips (after l (Accept k)) ≡ flips_before k (lineage 0 l)
 
 abbrev pub AdoptsRebase : Type 0
 AdoptsRebase = (l : LedgerState) (k from : ℕ) → Tidy l → l.base ≤ k → Rebases l (after l (Adopt k from)) k from

@@ -4,6 +4,5 @@ pub mod Ledgers
 pub mod Conditions
 pub mod Lawful
 pub mod Checkpoints
-pub mod Later
 pub mod Laws
 pub mod Apart

@@ -2,8 +2,7 @@
 
 ghost use Rattle.run_ledger.specs.Apart.{OneReplicaIsApart, RecordsAreRight, StrongRecordsAreRight};
 ghost use Rattle.run_ledger.specs.Checkpoints.{EqualCheckpointsAreOfEqualFolds, FoldsAreLawful};
-ghost use Rattle.run_ledger.specs.Later.{LaterFlipsDecide, LaterFlipsDecideInside};
-ghost use Rattle.run_ledger.specs.Laws.{AcceptThenDoneIsLawful, AcceptsRebase, AdoptsRebase, CrashesKeepLineages, DiffersKeepTheBase, FaultsStay, LineagesAreSets, LineagesShareTheBase, LineagesStayEmpty, StaysTidy};
+ghost use Rattle.run_ledger.specs.Laws.{AcceptThenDoneIsLawful, AcceptsMakeTheBase, AcceptsRebase, AdoptsRebase, CrashesKeepLineages, DiffersKeepTheBase, FaultsStay, LineagesAreSets, LineagesShareTheBase, LineagesStayEmpty, StaysTidy};
 
 use chare_eval::laws::{earlier_flips_decide, fold_is_shaped, folds_fit, slips_are_noted};
 use pup_state::laws::{lawful_fits, one_spelling};
@@ -38,13 +37,6 @@ pub fn lineages_stay_empty()
     ensures { LineagesStayEmpty }
 {}
 
-/// From equal states on, equal flips of that iteration and later lead to equal states, and to equal cells and messages
-/// inside each iteration. So a replica may go over to other flips below its base where they made the same base.
-pub fn later_flips_decide()
-    ensures states { LaterFlipsDecide }
-    ensures inside { LaterFlipsDecideInside }
-{}
-
 /// What lawful records keep of a ledger: live flips strike at the base or later, those of the base before it, and the
 /// lines are the script's.
 pub fn ledgers_stay_tidy()
@@ -58,6 +50,7 @@ pub fn lineages_follow()
     ensures bases { LineagesShareTheBase }
     ensures differs { DiffersKeepTheBase }
     ensures accepts { AcceptsRebase }
+    ensures made { AcceptsMakeTheBase }
     ensures adopts { AdoptsRebase }
     ensures crashes { CrashesKeepLineages }
 {}

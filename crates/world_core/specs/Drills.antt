@@ -15,9 +15,9 @@ use Rattle.world_core.specs.Worlds.{Setting, WorldState, opening_chooser, openin
 abbrev pub drill_setting : Plan → List Fault → Options → Setting
 drill_setting p script o = setting p script (block_nodes (elements p) o.nodes) o.nodes
 
-abbrev pub scheduled : Setting → ℕ → ℕ → WorldState
-scheduled s turns schedule = reached s (opening_world s) (picked s turns (opening_chooser s.nodes schedule) (opening_world s))
+abbrev pub scheduled : Setting → Options → ℕ → ℕ → WorldState
+scheduled s o turns schedule = reached s (opening_world s o) (picked s turns (opening_chooser s.nodes schedule) (opening_world s o))
 
 -- The world that a schedule reaches by at most as many events as the bound on turns allows.
 unfoldable pub drilled : Plan → List FaultLine → Options → ℕ → WorldState
-drilled p script o schedule = scheduled (drill_setting p (faults_of script) o) (capped (turns_bound p (length script) o.nodes)) schedule
+drilled p script o schedule = scheduled (drill_setting p (faults_of script) o) o (capped (turns_bound p (length script) o.nodes)) schedule

@@ -1,42 +1,30 @@
--- What a slot sends with an event of its own, and which events are enabled.
-use Rattle.std.specs.Prelude.{◌≡◌, ℕ, suc, slice_get, slice_set, ◌&&◌, not, Bool, true, false, if◌then◌else◌, is_some, List, [], ◌∷◌, Option, Some, None}
+-- Which events can happen.
+use Rattle.std.specs.Prelude.{◌≡◌, ℕ, ◌+◌, suc, slice_get, slice_set, ◌&&◌, not, Bool, true, false, if◌then◌else◌, is_some, is_none, List, [], ◌∷◌, Option, Some, None}
 use Rattle.std.specs.List.{AllByRecursion}
 use Rattle.chare_base.specs.declared.plan.ElementId.{ElementId}
 use Rattle.chare_base.specs.declared.plan.Plan.{Plan}
 use Rattle.fault_script.specs.declared.fault.Fault.{Fault}
+use Rattle.iteration_agree.specs.Cuts.{CutState, HasSlot}
 use Rattle.letter_post.specs.declared.letter.Letter.{Letter}
 use Rattle.letter_post.specs.declared.letter.Letter.TheVariants as letters
-use Rattle.letter_post.specs.declared.letter.Sent.{Sent}
-use Rattle.node_core.specs.Nodes.{NodeState, Outcome, can_run_by, node_can_run, node_heard, objects_of, rests}
+use Rattle.node_core.specs.Keeps.{Fitted}
+use Rattle.object_steps.specs.Objects.{Progress}
+use Rattle.node_core.specs.Nodes.{NodeState, node_can_run, objects_of, rests}
 use Rattle.node_core.specs.Rosters.{seat_of}
+use Rattle.world_core.specs.declared.doing.Doing.{Doing}
+use Rattle.world_core.specs.declared.doing.Doing.TheVariants as doings
+use Rattle.world_core.specs.declared.doing.Readiness.{Readiness}
+use Rattle.world_core.specs.declared.doing.Readiness.TheVariants.{Behind, Ready, Awaits, Level, Past}
 use Rattle.world_core.specs.declared.doing.Reach.{Reach}
 use Rattle.world_core.specs.declared.doing.Reach.TheVariants.{Nobody, Element, Everybody}
 use Rattle.world_core.specs.declared.event.Event.{Event}
 use Rattle.world_core.specs.declared.event.Event.TheVariants as events
-use Rattle.world_core.specs.Worlds.{Setting, SlotState, WorldState, ables, doing_of, move_due, renewed, slot_at}
+use Rattle.world_core.specs.Worlds.{Setting, SlotState, WorldState, conductor_due, readiness, seats_of, slot_at, slot_doing, slot_move, stand}
 
 abbrev pub setting : Plan → List Fault → List ℕ → ℕ → Setting
 setting p script place nodes = record { plan = p; script = script; place = place; nodes = nodes }
 
--- ---- a slot's events
-
--- what a slot is kept to do is what it would do
-abbrev pub Current : Plan → SlotState → Type 0
-Current p x = x.doing ≡ doing_of p x.node x.box
-
--- a slot after an event of its own, and what it sent
-pub record Acted : Type 0 where
-  pub slot : SlotState
-  pub out : List Sent
-
-abbrev pub acted : Plan → Outcome → List Letter → Acted
-acted p o box = record { slot = renewed p o.node box; out = o.out }
-
-abbrev pub heard_first : Setting → SlotState → List Letter → Acted
-heard_first s x [] = record { slot = x; out = [] }
-heard_first s x (letter ∷ more) = acted s.plan (node_heard s.plan s.script s.place letter x.node) more
-
--- ---- which objects can run, kept as events touch them
+-- ---- how objects stand, kept as events touch them
 
 -- which objects a letter may touch
 abbrev pub reach_of : Letter → Reach
@@ -49,34 +37,78 @@ reach_of (letters.Lend k fresh) = Nobody
 reach_of (letters.Take stamp k live piece) = Everybody
 reach_of (letters.Restore stamp k live) = Everybody
 reach_of (letters.Commit stamp k live) = Everybody
-reach_of (letters.Resume stamp) = Nobody
+reach_of (letters.Resume stamp) = Everybody
 reach_of (letters.Died stamp slot line) = Nobody
 reach_of letters.Stop = Nobody
 
--- whether the object of a seat can run
-abbrev pub able_at : Plan → NodeState → ℕ → Bool
-able_at p n i = can_run_by p p.iterations (slice_get (objects_of n.body) i)
+-- how the object of a seat stands; a seat that has none stands nowhere
+abbrev pub readiness_by : Plan → ℕ → Option Progress → Readiness
+readiness_by p top None = Past
+readiness_by p top (Some o) = readiness p top o
+
+abbrev pub readiness_at : Plan → ℕ → NodeState → ℕ → Readiness
+readiness_at p top n i = readiness_by p top (slice_get (objects_of n.body) i)
 
 -- the object of a seat may have changed
-abbrev pub marked : Plan → NodeState → Option ℕ → List Bool → List Bool
-marked p n None able = able
-marked p n (Some i) able = slice_set able i (able_at p n i)
+abbrev pub marked : Plan → ℕ → NodeState → Option ℕ → List Readiness → List Readiness
+marked p top n None seats = seats
+marked p top n (Some i) seats = slice_set seats i (readiness_at p top n i)
 
-abbrev pub marked_by : Plan → NodeState → Reach → List Bool → List Bool
-marked_by p n Nobody able = able
-marked_by p n (Element e) able = marked p n (seat_of n.roster e.0) able
-marked_by p n Everybody able = ables p n
+abbrev pub marked_by : Plan → ℕ → NodeState → Reach → List Readiness → List Readiness
+marked_by p top n Nobody seats = seats
+marked_by p top n (Element e) seats = marked p top n (seat_of n.roster e.0) seats
+marked_by p top n Everybody seats = seats_of p top n
+
+abbrev pub is_able : Readiness → Bool
+is_able Behind = true
+is_able Ready = true
+is_able Awaits = false
+is_able Level = false
+is_able Past = false
 
 -- the place of the first that can run; the first of these has number i
-abbrev pub first_able : ℕ → List Bool → Option ℕ
+abbrev pub first_able : ℕ → List Readiness → Option ℕ
 first_able i [] = None
-first_able i (b ∷ more) = if b then Some i else first_able (suc i) more
+first_able i (r ∷ more) = if is_able r then Some i else first_able (suc i) more
 
--- ---- enabled events
+abbrev pub is_behind : Readiness → Bool
+is_behind Behind = true
+is_behind Ready = false
+is_behind Awaits = false
+is_behind Level = false
+is_behind Past = false
 
-abbrev pub can_run_on : Plan → ElementId → Option SlotState → Bool
-can_run_on p e None = false
-can_run_on p e (Some x) = not (rests x.node) && node_can_run p p.iterations x.node e.0
+abbrev pub is_level : Readiness → Bool
+is_level Behind = false
+is_level Ready = false
+is_level Awaits = false
+is_level Level = true
+is_level Past = false
+
+-- how many are so
+abbrev pub count : (Readiness → Bool) → List Readiness → ℕ
+count is [] = 0
+count is (r ∷ more) = (if is r then 1 else 0) + count is more
+
+-- ---- what the calls of a slot ask
+
+-- it has a place in the agreement, and its node is one of the plan
+pub record Renews (p : Plan) (cut : CutState) (x : SlotState) : Type 0 where
+  pub fits : Fitted p x.node
+  pub roster : x.node.roster.iterations ≡ p.iterations
+  pub slot : HasSlot cut x.node.slot
+
+-- and what is kept of it is so: how its objects stand, and what it would do
+pub record Fresh (p : Plan) (cut : CutState) (x : SlotState) : Type 0 where
+  pub renews : Renews p cut x
+  pub seats : x.seats ≡ seats_of p (stand cut x.node.slot).top x.node
+  pub current : x.doing ≡ slot_doing p cut x
+
+-- ---- which events can happen
+
+abbrev pub can_run_on : Plan → CutState → ElementId → Option SlotState → Bool
+can_run_on p cut e None = false
+can_run_on p cut e (Some x) = not (rests x.node) && is_none x.back && node_can_run p (stand cut x.node.slot).top x.node e.0
 
 abbrev pub has_letter : List Letter → Bool
 has_letter [] = false
@@ -86,16 +118,21 @@ abbrev pub can_hear : Option SlotState → Bool
 can_hear None = false
 can_hear (Some x) = has_letter x.box
 
-abbrev pub can_move : Plan → Option SlotState → Bool
-can_move p None = false
-can_move p (Some x) = move_due p x.node
+abbrev pub can_move : Plan → CutState → Option SlotState → Bool
+can_move p cut None = false
+can_move p cut (Some x) = is_some (slot_move p cut x)
+
+abbrev pub can_act : Plan → CutState → Doing → Option SlotState → Bool
+can_act p cut doings.Hear x = can_hear x
+can_act p cut doings.Move x = can_move p cut x
+can_act p cut (doings.Run e) x = can_run_on p cut e x
 
 abbrev pub event_due : Plan → ℕ → WorldState → Event → Bool
-event_due p nodes w (events.Run slot e) = can_run_on p e (slot_at nodes w.posts.slots slot)
-event_due p nodes w (events.Hear slot) = can_hear (slot_at nodes w.posts.slots slot)
-event_due p nodes w (events.Move slot) = can_move p (slot_at nodes w.posts.slots slot)
+event_due p nodes w (events.Run slot e) = can_act p w.cut (doings.Run e) (slot_at nodes w.posts.slots slot)
+event_due p nodes w (events.Hear slot) = can_act p w.cut doings.Hear (slot_at nodes w.posts.slots slot)
+event_due p nodes w (events.Move slot) = can_act p w.cut doings.Move (slot_at nodes w.posts.slots slot)
 event_due p nodes w events.ConductorHear = has_letter w.posts.desk
-event_due p nodes w events.ConductorMove = false
+event_due p nodes w events.ConductorMove = conductor_due w
 
 -- Whether an event can happen: more of them may than the one that its actor would make. None can once the run has ended.
 unfoldable pub is_enabled : Plan → ℕ → WorldState → Event → Bool

@@ -8,7 +8,7 @@ ghost use Rattle.world_core.specs.Bounds.{capped, turns_bound};
 ghost use Rattle.conductor_core.specs.Endings.{IsEnding};
 ghost use Rattle.world_core.specs.Drills.{drilled, scheduled};
 ghost use Rattle.world_core.specs.Sound.{Sound};
-ghost use Rattle.world_core.specs.Steps.{Current, setting};
+ghost use Rattle.world_core.specs.Steps.{Fresh, setting};
 ghost use Rattle.world_core.specs.Worlds.{actor_at, chosen_of, drawn, enabled, first_above, goes_on, opening_chooser, picked, reached, ready_from, stirred};
 
 use crate::event::{Actor, Chooser};
@@ -40,12 +40,13 @@ pub fn drill(
 ) -> Result<Ending, DrillFault>
     requires some { 1 ≤ options.now.nodes }
     requires few { options.now.nodes ≤ elements plan.now }
+    requires bounded { options.now.nodes ≤ 32 }
     ensures outcome { IfOk result (λ ending. (drilled plan.now script.now options.now schedule).conductor.outcome ≡ Some ending.outcome) }
     ensures records { IfOk result (λ ending. ending.records.items ≡ (drilled plan.now script.now options.now schedule).conductor.records) }
     ensures marks { IfOk result (λ ending. ending.marks ≡ (drilled plan.now script.now options.now schedule).conductor.marks) }
     ensures last { IfOk result (λ ending. ending.last ≡ (drilled plan.now script.now options.now schedule).conductor.last) }
     ensures still { result ≡ Err DrillFault.Still → (drilled plan.now script.now options.now schedule).conductor.outcome ≡ None }
-    ensures lawful { IfOk result (λ ending. script.now ≡ [] → IsEnding plan.now [] options.now ending) }
+    ensures lawful { IfOk result (λ ending. IsEnding plan.now (faults_of script.now) options.now ending) }
 {
     let map = BlockMap {
         elements: plan.elements(),
@@ -71,8 +72,9 @@ pub fn run<M: Placement>(
 ) -> Result<World, Memory>
     requires place { length (M.place map.now) ≡ elements plan.now }
     requires nodes { M.count map.now ≡ options.now.nodes }
-    ensures reached { IfOk result (λ w. w ≡ scheduled (setting plan.now (faults_of script.now) (M.place map.now) (M.count map.now)) (capped (turns_bound plan.now (length script.now) (M.count map.now))) schedule) }
-    ensures sound { IfOk result (λ w. Sound (setting plan.now (faults_of script.now) (M.place map.now) (M.count map.now)) w) }
+    requires bounded { options.now.nodes ≤ 32 }
+    ensures reached { IfOk result (λ w. w ≡ scheduled (setting plan.now (faults_of script.now) (M.place map.now) (M.count map.now)) options.now (capped (turns_bound plan.now (length script.now) (M.count map.now))) schedule) }
+    ensures sound { IfOk result (λ w. Sound (setting plan.now (faults_of script.now) (M.place map.now) (M.count map.now)) options.now w) }
 {
     worlds_are_sound();
     let nodes = map.nodes();
@@ -82,6 +84,7 @@ pub fn run<M: Placement>(
         alloc,
         plan,
         script,
+        options,
         map,
         opening_chooser(nodes, schedule),
         turns,
@@ -95,18 +98,22 @@ fn go<M: Placement>(
     alloc: Global,
     plan: &Plan,
     script: &Script,
+    options: &Options,
     map: &M,
     chooser: Chooser,
     turns: u64,
     world: &mut World,
 ) -> Result<(), Memory>
     requires place { length (M.place map.now) ≡ elements plan.now }
-    requires sound { Sound (setting plan.now (faults_of script.now) (M.place map.now) (M.count map.now)) world.old }
+    requires nodes { M.count map.now ≡ options.now.nodes }
+    requires bounded { options.now.nodes ≤ 32 }
+    requires sound { Sound (setting plan.now (faults_of script.now) (M.place map.now) (M.count map.now)) options.now world.old }
     ensures reached { OnOk result (let s = setting plan.now (faults_of script.now) (M.place map.now) (M.count map.now) in world.new ≡ reached s world.old (picked s turns chooser world.old)) }
-    ensures sound { OnOk result (Sound (setting plan.now (faults_of script.now) (M.place map.now) (M.count map.now)) world.new) }
+    ensures sound { OnOk result (Sound (setting plan.now (faults_of script.now) (M.place map.now) (M.count map.now)) options.now world.new) }
 {
     worlds_are_sound();
     sound_worlds_serve();
+    let _ = options;
     let nodes = map.nodes();
     let mut ready = Vec::new(alloc);
     let mut left = turns;
@@ -134,7 +141,7 @@ fn find_ready<M: Placement>(
     world: &World,
     ready: &mut Vec<usize>,
 ) -> Result<(), Memory>
-    requires { AllByRecursion (Current plan.now) world.now.posts.slots }
+    requires { AllByRecursion (Fresh plan.now world.now.cut) world.now.posts.slots }
     ensures { OnOk result (ready.new.items ≡ ready.old.items ++ ready_from plan.now (M.count map.now) world.now 0 (suc (M.count map.now + M.count map.now))) }
 {
     let nodes = map.nodes();

@@ -13,14 +13,16 @@
 //! The top call drills through this crate, and tests try schedules with it.
 #![tactic(auto)]
 
-mod able;
+mod conducting;
 pub mod doing;
 pub mod drill;
 pub mod event;
 pub mod fault;
 mod inbox;
 pub mod laws;
+mod moves;
 mod posts;
+mod seats;
 mod slot;
 mod turns;
 pub mod world;

@@ -1,15 +1,15 @@
 //! All slots, and the letters that go to them.
 
-ghost use Rattle.std.specs.Prelude.{◌≡◌, ◌+◌, ◌*◌, ◌<◌, ◌++◌, ◌∷◌, [], ℕ, Bool, length, OnOk, IfOk, IfSome, None, slice_get};
+ghost use Rattle.std.specs.Prelude.{◌≡◌, ◌≤◌, ◌+◌, ◌*◌, ◌<◌, ◌++◌, ◌∷◌, [], ℕ, Bool, length, map, OnOk, IfOk, IfSome, None, Some, slice_get};
 ghost use Rattle.std.specs.List.{AllByRecursion};
 ghost use Rattle.chare_base.specs.Elements.{elements};
 ghost use Rattle.conductor_core.specs.Conductors.{ConductorState};
 ghost use Rattle.conductor_core.specs.Openings.{all_lines};
 ghost use Rattle.fault_script.specs.Lines.{faults_of};
-ghost use Rattle.node_core.specs.Keeps.{Fitted};
-ghost use Rattle.world_core.specs.Sound.{SlotSound};
-ghost use Rattle.world_core.specs.Steps.{Current, can_hear, can_move, can_run_on, event_due, setting};
-ghost use Rattle.world_core.specs.Worlds.{event_of, heard_by, moved_by, number_of, opening_slots, posted, put_in, ran_by, slot_at, slot_event};
+ghost use Rattle.iteration_agree.specs.Cuts.{opening_cut};
+ghost use Rattle.world_core.specs.Sound.{Served};
+ghost use Rattle.world_core.specs.Steps.{Fresh, Renews, can_act, setting};
+ghost use Rattle.world_core.specs.Worlds.{again, by_slot, does, event_of, number_of, opening_slots, posted, put_in, slot_at, slot_event};
 
 use crate::doing::Doing;
 use crate::event::Event;
@@ -21,6 +21,7 @@ use chare_base::plan::{ElementId, Plan};
 use chare_base::slots::SlotId;
 use conductor_core::opening::all_lines;
 use fault_script::script::Script;
+use iteration_agree::cut::Cut;
 use letter_post::letter::{BoxId, Sent};
 use letter_post::outbox::Outbox;
 use std::alloc::Global;
@@ -32,15 +33,18 @@ pub fn start_slots<M: Placement>(
     script: &Script,
     map: &M,
     replica: u8,
+    cut: &Cut,
     slots: &mut Vec<Slot>,
 ) -> Result<(), Memory>
-    requires { length (M.place map.now) ≡ elements plan.now }
+    requires place { length (M.place map.now) ≡ elements plan.now }
+    requires cut { cut.now ≡ opening_cut (M.count map.now) }
+    requires replica { replica ≤ 1 }
     ensures { OnOk result (slots.new.items ≡ slots.old.items ++ opening_slots (setting plan.now (faults_of script.now) (M.place map.now) (M.count map.now)) replica (M.count map.now)) }
 {
     let live = all_lines(script);
     for node in 0..map.nodes() {
         let slot = SlotId { replica, node };
-        slots.push(Slot::start(alloc, plan, script, map, slot, live)?)?;
+        slots.push(Slot::start(alloc, plan, script, map, slot, live, cut)?)?;
     }
     Ok(())
 }
@@ -101,87 +105,51 @@ pub fn deliver(
     Ok(())
 }
 
-/// A slot runs an element, and what this sends goes to inboxes.
+/// A slot hears, moves or runs an element, and what it sends goes to inboxes.
 ///
 /// `Memory`: an allocation was refused; the slots are of no further use.
-pub fn run_at<M: Placement>(
+pub fn act_at<M: Placement>(
     alloc: Global,
     plan: &Plan,
     script: &Script,
     map: &M,
     slot: SlotId,
-    e: ElementId,
+    doing: Doing,
+    cut: &mut Cut,
     slots: &mut Vec<Slot>,
     desk: &mut Inbox,
 ) -> Result<(), Memory>
     requires place { length (M.place map.now) ≡ elements plan.now }
-    requires sound { AllByRecursion (SlotSound (setting plan.now (faults_of script.now) (M.place map.now) (M.count map.now))) slots.old.items }
-    ensures { (c : ConductorState) (over : Bool) → OnOk result (record { posts = record { slots = slots.new.items; desk = desk.new }; conductor = c; over = over } ≡ ran_by (setting plan.now (faults_of script.now) (M.place map.now) (M.count map.now)) slot e (record { posts = record { slots = slots.old.items; desk = desk.old }; conductor = c; over = over }) (slot_at (M.count map.now) slots.old.items slot)) }
+    requires served { AllByRecursion (Served (setting plan.now (faults_of script.now) (M.place map.now) (M.count map.now)) cut.old) slots.old.items }
+    ensures { (c : ConductorState) (over : Bool) → OnOk result (record { posts = record { slots = slots.new.items; desk = desk.new }; cut = cut.new; conductor = c; over = over } ≡ by_slot (setting plan.now (faults_of script.now) (M.place map.now) (M.count map.now)) slot (record { posts = record { slots = slots.old.items; desk = desk.old }; cut = cut.old; conductor = c; over = over }) (does (setting plan.now (faults_of script.now) (M.place map.now) (M.count map.now)) cut.old doing) (slot_at (M.count map.now) slots.old.items slot)) }
 {
     let nodes = map.nodes();
     if let Some(i) = find(nodes, slots.as_slice(), slot) {
-        let out = slots[i].run(alloc, plan, script, map, e)?;
+        let out = slots[i].act(alloc, plan, script, map, doing, cut)?;
         deliver(nodes, out, slots, desk)?;
     }
     Ok(())
 }
 
-/// A slot hears its first letter, and what this sends goes to inboxes.
+/// What every slot would do is worked out again, after the agreement moved.
 ///
 /// `Memory`: an allocation was refused; the slots are of no further use.
-pub fn hear_at<M: Placement>(
-    alloc: Global,
-    plan: &Plan,
-    script: &Script,
-    map: &M,
-    slot: SlotId,
-    slots: &mut Vec<Slot>,
-    desk: &mut Inbox,
-) -> Result<(), Memory>
-    requires { AllByRecursion (SlotSound (setting plan.now (faults_of script.now) (M.place map.now) (M.count map.now))) slots.old.items }
-    ensures { (c : ConductorState) (over : Bool) → OnOk result (record { posts = record { slots = slots.new.items; desk = desk.new }; conductor = c; over = over } ≡ heard_by (setting plan.now (faults_of script.now) (M.place map.now) (M.count map.now)) slot (record { posts = record { slots = slots.old.items; desk = desk.old }; conductor = c; over = over }) (slot_at (M.count map.now) slots.old.items slot)) }
+pub fn renew_all(plan: &Plan, cut: &Cut, slots: &mut Vec<Slot>) -> Result<(), Memory>
+    requires { AllByRecursion (Renews plan.now cut.now) slots.old.items }
+    ensures { OnOk result (slots.new.items ≡ map (again plan.now cut.now) slots.old.items) }
 {
-    let nodes = map.nodes();
-    if let Some(i) = find(nodes, slots.as_slice(), slot) {
-        if slots[i].can_hear() {
-            let out = slots[i].hear(alloc, plan, script, map)?;
-            deliver(nodes, out, slots, desk)?;
-        }
-    }
-    Ok(())
-}
-
-/// A slot makes a move where one is due, and what this sends goes to inboxes.
-///
-/// `Memory`: an allocation was refused; the slots are of no further use.
-pub fn move_at<M: Placement>(
-    alloc: Global,
-    plan: &Plan,
-    script: &Script,
-    map: &M,
-    slot: SlotId,
-    slots: &mut Vec<Slot>,
-    desk: &mut Inbox,
-) -> Result<(), Memory>
-    requires { AllByRecursion (SlotSound (setting plan.now (faults_of script.now) (M.place map.now) (M.count map.now))) slots.old.items }
-    ensures { (c : ConductorState) (over : Bool) → OnOk result (record { posts = record { slots = slots.new.items; desk = desk.new }; conductor = c; over = over } ≡ moved_by (setting plan.now (faults_of script.now) (M.place map.now) (M.count map.now)) slot (record { posts = record { slots = slots.old.items; desk = desk.old }; conductor = c; over = over }) (slot_at (M.count map.now) slots.old.items slot)) }
-{
-    let nodes = map.nodes();
-    if let Some(i) = find(nodes, slots.as_slice(), slot) {
-        if slots[i].can_move(plan) {
-            let out = slots[i].pack(alloc, plan, script, map)?;
-            deliver(nodes, out, slots, desk)?;
-        }
+    for i in 0..slots.len() {
+        slots[i].renew(plan, cut)?;
     }
     Ok(())
 }
 
 /// The event that a slot would make.
-pub fn slot_event(plan: &Plan, nodes: u16, slots: &[Slot], slot: SlotId) -> Option<Event>
-    requires { AllByRecursion (Current plan.now) slots.now }
-    ensures { result ≡ slot_event plan.now slot (slot_at nodes slots.now slot) }
+pub fn slot_event(plan: &Plan, nodes: u16, cut: &Cut, slots: &[Slot], slot: SlotId) -> Option<Event>
+    requires { AllByRecursion (Fresh plan.now cut.now) slots.now }
+    ensures { result ≡ slot_event plan.now cut.now slot (slot_at nodes slots.now slot) }
 {
-    let _ = plan;
+    let _ = (plan, cut);
     match find(nodes, slots, slot) {
         Some(i) => event_of(slot, slots[i].doing()),
         None => None,
@@ -199,47 +167,31 @@ fn event_of(slot: SlotId, doing: Option<Doing>) -> Option<Event>
     }
 }
 
-/// Whether an element of a slot can run.
-fn can_run_at(plan: &Plan, nodes: u16, slots: &[Slot], slot: SlotId, e: ElementId) -> bool
-    requires { AllByRecursion (λ x. Fitted plan.now x.node) slots.now }
-    ensures { result ≡ can_run_on plan.now e (slot_at nodes slots.now slot) }
+/// Whether an event of a slot can happen in a run that goes on.
+pub fn can_act(
+    plan: &Plan,
+    nodes: u16,
+    cut: &Cut,
+    slots: &[Slot],
+    slot: SlotId,
+    doing: Doing,
+) -> bool
+    requires { AllByRecursion (Fresh plan.now cut.now) slots.now }
+    ensures { result ≡ can_act plan.now cut.now doing (slot_at nodes slots.now slot) }
 {
     match find(nodes, slots, slot) {
-        Some(i) => slots[i].can_run(plan, e),
+        Some(i) => slot_can(plan, cut, &slots[i], doing),
         None => false,
     }
 }
 
-/// Whether a slot has a letter.
-fn can_hear_at(nodes: u16, slots: &[Slot], slot: SlotId) -> bool
-    ensures { result ≡ can_hear (slot_at nodes slots.now slot) }
+fn slot_can(plan: &Plan, cut: &Cut, slot: &Slot, doing: Doing) -> bool
+    requires { Fresh plan.now cut.now slot.now }
+    ensures { result ≡ can_act plan.now cut.now doing (Some slot.now) }
 {
-    match find(nodes, slots, slot) {
-        Some(i) => slots[i].can_hear(),
-        None => false,
-    }
-}
-
-/// Whether a slot has a move to make.
-fn can_move_at(plan: &Plan, nodes: u16, slots: &[Slot], slot: SlotId) -> bool
-    ensures { result ≡ can_move plan.now (slot_at nodes slots.now slot) }
-{
-    match find(nodes, slots, slot) {
-        Some(i) => slots[i].can_move(plan),
-        None => false,
-    }
-}
-
-/// Whether an event can happen in a run that goes on.
-pub fn event_due(plan: &Plan, nodes: u16, slots: &[Slot], desk: &Inbox, event: Event) -> bool
-    requires { AllByRecursion (λ x. Fitted plan.now x.node) slots.now }
-    ensures { (c : ConductorState) (over : Bool) → result ≡ event_due plan.now nodes (record { posts = record { slots = slots.now; desk = desk.now }; conductor = c; over = over }) event }
-{
-    match event {
-        Event::Run { slot, element } => can_run_at(plan, nodes, slots, slot, element),
-        Event::Hear { slot } => can_hear_at(nodes, slots, slot),
-        Event::Move { slot } => can_move_at(plan, nodes, slots, slot),
-        Event::ConductorHear => desk.has_letter(),
-        Event::ConductorMove => false,
+    match doing {
+        Doing::Hear => slot.can_hear(),
+        Doing::Move => slot.due_move(plan, cut).is_some(),
+        Doing::Run(e) => slot.can_run(plan, cut, e),
     }
 }

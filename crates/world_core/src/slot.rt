@@ -1,23 +1,30 @@
 //! A slot with its inbox.
 
-ghost use Rattle.std.specs.Prelude.{◌≡◌, ◌<◌, ◌==◌, ◌&&◌, ◌++◌, ◌∷◌, [], ℕ, length, true, OnOk, IfOk, Some};
+ghost use Rattle.std.specs.Prelude.{◌≡◌, ◌==◌, ◌&&◌, ◌++◌, ◌∷◌, [], ℕ, length, true, OnOk, IfOk, Some, None};
 ghost use Rattle.chare_base.specs.Elements.{elements};
 ghost use Rattle.fault_script.specs.Lines.{faults_of};
-ghost use Rattle.node_core.specs.Keeps.{Capped, Fitted, Keeps};
-ghost use Rattle.node_core.specs.Nodes.{first_running, node_can_run, node_packed, node_ran, out_of, outcome_of, rests};
+ghost use Rattle.iteration_agree.specs.Cuts.{HasSlot, packed_by, slot_of};
+ghost use Rattle.iteration_agree.specs.Under.{MayPack};
+ghost use Rattle.node_core.specs.Keeps.{Fitted};
+ghost use Rattle.node_core.specs.Nodes.{first_running, node_packed, node_ran, out_of, outcome_of};
 ghost use Rattle.node_core.specs.Starts.{start_state};
-ghost use Rattle.world_core.specs.Sound.{SlotSound};
-ghost use Rattle.world_core.specs.Steps.{Acted, acted, can_hear, can_move, can_run_on, has_letter, heard_first, setting};
-ghost use Rattle.world_core.specs.Worlds.{ables, doing_of, move_due, node_doing, renewed, slot_put};
+ghost use Rattle.world_core.specs.declared.doing.Since.TheVariants.{Nothing};
+ghost use Rattle.world_core.specs.Moves.{move_of};
+ghost use Rattle.world_core.specs.Sound.{Served};
+ghost use Rattle.world_core.specs.Steps.{Fresh, Renews, can_hear, can_move, can_run_on, setting};
+ghost use Rattle.world_core.specs.Worlds.{MayMove, acted, back_by, run_due, shifted, with_back, again, back_after, does, doing_of, idle_doing, moved_in, ordered_after, renewed, resumed_after, seats_of, since_after, slot_heard, slot_move, slot_moved, slot_moved_by, slot_put, slot_ran, stand};
 
-use crate::able::{Able, mark, mark_by, reach_of, start_able};
-use crate::doing::Doing;
+use crate::doing::{Doing, Since, SlotMove};
 use crate::inbox::Inbox;
+use crate::moves::move_of;
+use crate::seats::{SeatStates, mark, mark_by, reach_of, start_seats};
 use chare_base::memory::Memory;
 use chare_base::placement::Placement;
 use chare_base::plan::{ElementId, Plan};
 use chare_base::slots::{LineSet, SlotId};
 use fault_script::script::Script;
+use iteration_agree::cut::Cut;
+use iteration_agree::round::{Round, Standing};
 use letter_post::letter::Letter;
 use letter_post::outbox::Outbox;
 use node_core::laws::nodes_keep;
@@ -26,13 +33,15 @@ use node_core::turn::Turn;
 use std::alloc::Global;
 use std::marker::Model;
 
-/// A slot: its node, its inbox, which objects of the node can run, and what it would do next. The last two are kept from
-/// event to event, so that an event looks at the objects that it touches alone.
+/// A slot: its node, its inbox, what it heard that concerns its place in the agreement, and what it would do next, kept so
+/// that it needn't be worked out at each turn.
 #[derive(Drop)]
 pub struct Slot {
     node: Node,
     inbox: Inbox,
-    able: Able,
+    back: Option<u64>,
+    since: Since,
+    seats: SeatStates,
     doing: Option<Doing>,
 }
 
@@ -41,7 +50,7 @@ impl Model for Slot {
 
     ghost Value = { SlotState };
 
-    ghost view = { λ s. record { node = s.node; box = s.inbox; able = s.able; doing = s.doing } };
+    ghost view = { λ s. record { node = s.node; box = s.inbox; back = s.back; since = s.since; seats = s.seats; doing = s.doing } };
 }
 
 impl Slot {
@@ -55,19 +64,32 @@ impl Slot {
         map: &M,
         slot: SlotId,
         live: LineSet,
+        cut: &Cut,
     ) -> Result<Slot, Memory>
-        requires { length (M.place map.now) ≡ elements plan.now }
-        ensures { IfOk result (λ x. x ≡ renewed plan.now (start_state plan.now (faults_of script.now) (M.place map.now) slot live) []) }
+        requires place { length (M.place map.now) ≡ elements plan.now }
+        requires slot { HasSlot cut.now slot }
+        ensures { IfOk result (λ x. x ≡ renewed plan.now cut.now (start_state plan.now (faults_of script.now) (M.place map.now) slot live) [] None Nothing) }
     {
         nodes_keep();
         let node = Node::start(alloc, plan, script, map, slot, live)?;
-        let mut able = Able::new(alloc);
-        start_able(plan, &node, &mut able)?;
-        let doing = node_doing(plan, &node, &mut able);
+        let standing = cut.standing(slot);
+        let mut seats = SeatStates::new(alloc);
+        start_seats(plan, standing.top, &node, &mut seats)?;
+        let doing = idle_doing(
+            plan,
+            cut.round(),
+            &node,
+            standing,
+            None,
+            Since::Nothing,
+            &mut seats,
+        );
         Ok(Slot {
             node,
             inbox: Inbox::new(alloc),
-            able,
+            back: None,
+            since: Since::Nothing,
+            seats,
             doing,
         })
     }
@@ -88,11 +110,12 @@ impl Slot {
     }
 
     /// Whether this element of it can run.
-    pub fn can_run(&self, plan: &Plan, e: ElementId) -> bool
-        requires { Fitted plan.now self.now.node }
-        ensures { result ≡ can_run_on plan.now e (Some self.now) }
+    pub fn can_run(&self, plan: &Plan, cut: &Cut, e: ElementId) -> bool
+        requires { Renews plan.now cut.now self.now }
+        ensures { result ≡ can_run_on plan.now cut.now e (Some self.now) }
     {
-        !self.node.rests() && self.node.can_run(plan, e, plan.iterations())
+        let top = cut.standing(self.node.slot()).top;
+        !self.node.rests() && self.back.is_none() && self.node.can_run(plan, e, top)
     }
 
     /// Whether a letter is there.
@@ -102,11 +125,20 @@ impl Slot {
         self.inbox.has_letter()
     }
 
-    /// Whether it has a move to make.
-    pub fn can_move(&self, plan: &Plan) -> bool
-        ensures { result ≡ can_move plan.now (Some self.now) }
+    /// The first move that is due to it.
+    pub fn due_move(&self, plan: &Plan, cut: &Cut) -> Option<SlotMove>
+        requires { Fresh plan.now cut.now self.now }
+        ensures { result ≡ slot_move plan.now cut.now self.now }
     {
-        move_due(plan, &self.node)
+        move_of(
+            plan,
+            cut.round(),
+            &self.node,
+            cut.standing(self.node.slot()),
+            self.back,
+            self.since,
+            &self.seats,
+        )
     }
 
     /// A letter comes, at the back of its inbox.
@@ -120,129 +152,345 @@ impl Slot {
         Ok(())
     }
 
-    /// Runs an element.
+    /// What it would do next is worked out again, after the agreement moved.
     ///
     /// `Memory`: an allocation was refused; the slot is of no further use.
-    pub fn run<M: Placement>(
+    pub fn renew(&mut self, plan: &Plan, cut: &Cut) -> Result<(), Memory>
+        requires { Renews plan.now cut.now self.old }
+        ensures { OnOk result (self.new ≡ again plan.now cut.now self.old) }
+    {
+        let standing = cut.standing(self.node.slot());
+        self.seats.clear();
+        start_seats(plan, standing.top, &self.node, &mut self.seats)?;
+        self.doing = doing_of(
+            plan,
+            cut.round(),
+            standing,
+            &self.node,
+            &self.inbox,
+            self.back,
+            self.since,
+            &mut self.seats,
+        );
+        Ok(())
+    }
+}
+
+// What a slot would do next.
+fn doing_of(
+    plan: &Plan,
+    round: Round,
+    standing: Standing,
+    node: &Node,
+    inbox: &Inbox,
+    back: Option<u64>,
+    since: Since,
+    seats: &mut SeatStates,
+) -> Option<Doing>
+    requires seats { seats.old ≡ seats_of plan.now standing.top node.now }
+    requires roster { node.now.roster.iterations ≡ plan.now.iterations }
+    ensures doing { result ≡ doing_of plan.now round standing node.now inbox.now back since }
+    ensures stays { seats.new ≡ seats.old }
+{
+    if inbox.has_letter() {
+        Some(Doing::Hear)
+    } else {
+        idle_doing(plan, round, node, standing, back, since, seats)
+    }
+}
+
+fn idle_doing(
+    plan: &Plan,
+    round: Round,
+    node: &Node,
+    standing: Standing,
+    back: Option<u64>,
+    since: Since,
+    seats: &mut SeatStates,
+) -> Option<Doing>
+    requires seats { seats.old ≡ seats_of plan.now standing.top node.now }
+    requires roster { node.now.roster.iterations ≡ plan.now.iterations }
+    ensures doing { result ≡ idle_doing plan.now round node.now standing back since }
+    ensures stays { seats.new ≡ seats.old }
+{
+    match move_of(plan, round, node, standing, back, since, seats) {
+        Some(_) => Some(Doing::Move),
+        None => run_due(plan, node, standing.top, back, seats),
+    }
+}
+
+fn run_due(
+    plan: &Plan,
+    node: &Node,
+    top: u64,
+    back: Option<u64>,
+    seats: &mut SeatStates,
+) -> Option<Doing>
+    requires { seats.old ≡ seats_of plan.now top node.now }
+    ensures doing { (t : Standing) → t.top ≡ top → result ≡ run_due plan.now node.now t back }
+    ensures stays { seats.new ≡ seats.old }
+{
+    match back {
+        Some(_) => None,
+        None => match first_running(plan, node, top, seats) {
+            Some(e) => Some(Doing::Run(e)),
+            None => None,
+        },
+    }
+}
+
+// The least element that can run.
+#[tactic(auto, using(crate::proofs::Seating::rests_is, crate::proofs::Seating::none_is, crate::proofs::Seating::some_is))]
+fn first_running(
+    plan: &Plan,
+    node: &Node,
+    top: u64,
+    seats: &mut SeatStates,
+) -> Option<ElementId>
+    requires { seats.old ≡ seats_of plan.now top node.now }
+    ensures first { result ≡ first_running plan.now top node.now }
+    ensures stays { seats.new ≡ seats.old }
+{
+    let _ = (plan, top);
+    if node.rests() {
+        return None;
+    }
+    match seats.first_able() {
+        None => None,
+        Some(seat) => node.element_of_seat(seat),
+    }
+}
+
+// ---- events
+
+impl Slot {
+    /// It hears, moves or runs an element. What it sends is answered.
+    ///
+    /// `Memory`: an allocation was refused; the slot is of no further use.
+    pub fn act<M: Placement>(
+        &mut self,
+        alloc: Global,
+        plan: &Plan,
+        script: &Script,
+        map: &M,
+        doing: Doing,
+        cut: &mut Cut,
+    ) -> Result<Outbox, Memory>
+        requires place { length (M.place map.now) ≡ elements plan.now }
+        requires served { Served (setting plan.now (faults_of script.now) (M.place map.now) (M.count map.now)) cut.old self.old }
+        ensures { IfOk result (λ out. record { slot = self.new; cut = cut.new; out = out } ≡ does (setting plan.now (faults_of script.now) (M.place map.now) (M.count map.now)) cut.old doing self.old) }
+    {
+        match doing {
+            Doing::Hear => self.hear(alloc, plan, script, map, cut),
+            Doing::Move => self.make_move(alloc, plan, script, map, cut),
+            Doing::Run(e) => self.run(alloc, plan, script, map, e, cut),
+        }
+    }
+
+    // Runs an element, unless it has to go back.
+    fn run<M: Placement>(
         &mut self,
         alloc: Global,
         plan: &Plan,
         script: &Script,
         map: &M,
         e: ElementId,
+        cut: &Cut,
     ) -> Result<Outbox, Memory>
         requires place { length (M.place map.now) ≡ elements plan.now }
-        requires sound { SlotSound (setting plan.now (faults_of script.now) (M.place map.now) (M.count map.now)) self.old }
-        ensures { IfOk result (λ out. record { slot = self.new; out = out } ≡ acted plan.now (outcome_of (node_ran plan.now (faults_of script.now) (M.place map.now) plan.now.iterations e.0 self.old.node)) self.old.box) }
+        requires served { Served (setting plan.now (faults_of script.now) (M.place map.now) (M.count map.now)) cut.now self.old }
+        ensures { IfOk result (λ out. record { slot = self.new; cut = cut.now; out = out } ≡ slot_ran (setting plan.now (faults_of script.now) (M.place map.now) (M.count map.now)) cut.now e self.old) }
     {
-        nodes_keep();
+        if self.back.is_some() {
+            return Ok(Outbox::new(alloc));
+        }
+        let standing = cut.standing(self.node.slot());
         let turn = self
             .node
-            .run_element(alloc, plan, script, map, e, plan.iterations())?;
-        mark(plan, &self.node, e, &mut self.able);
-        self.doing = doing_of(plan, &self.node, &self.inbox, &mut self.able);
+            .run_element(alloc, plan, script, map, e, standing.top)?;
+        mark(plan, standing.top, &self.node, e, &mut self.seats);
+        self.tell(plan, cut.round(), standing);
         Ok(sent_by(alloc, turn))
     }
 
-    /// Hears its first letter, where there is one.
-    ///
-    /// `Memory`: an allocation was refused; the slot is of no further use.
-    pub fn hear<M: Placement>(
+    // Hears its first letter, where there is one.
+    fn hear<M: Placement>(
         &mut self,
         alloc: Global,
         plan: &Plan,
         script: &Script,
         map: &M,
+        cut: &Cut,
     ) -> Result<Outbox, Memory>
-        requires { SlotSound (setting plan.now (faults_of script.now) (M.place map.now) (M.count map.now)) self.old }
-        ensures { IfOk result (λ out. record { slot = self.new; out = out } ≡ heard_first (setting plan.now (faults_of script.now) (M.place map.now) (M.count map.now)) self.old self.old.box) }
+        requires place { length (M.place map.now) ≡ elements plan.now }
+        requires served { Served (setting plan.now (faults_of script.now) (M.place map.now) (M.count map.now)) cut.now self.old }
+        ensures { IfOk result (λ out. record { slot = self.new; cut = cut.now; out = out } ≡ slot_heard (setting plan.now (faults_of script.now) (M.place map.now) (M.count map.now)) cut.now self.old self.old.box) }
     {
-        nodes_keep();
         match self.inbox.take() {
             Some(letter) => {
+                let standing = cut.standing(self.node.slot());
                 let reach = reach_of(&letter);
+                self.back = back_after(&letter, self.back);
+                self.since = since_after(&letter, self.since);
                 let out = self.node.hear(alloc, plan, script, map, letter)?;
-                mark_by(plan, &self.node, reach, &mut self.able)?;
-                self.doing = doing_of(plan, &self.node, &self.inbox, &mut self.able);
+                mark_by(plan, standing.top, &self.node, reach, &mut self.seats)?;
+                self.tell(plan, cut.round(), standing);
                 Ok(out)
             }
             None => Ok(Outbox::new(alloc)),
         }
     }
 
-    /// Packs the last iteration: all its elements have completed it.
-    ///
-    /// `Memory`: an allocation was refused; the slot is of no further use.
-    pub fn pack<M: Placement>(
+    // What it would do next, after an event that left what it keeps of its objects right.
+    fn tell(&mut self, plan: &Plan, round: Round, standing: Standing)
+        requires seats { self.old.seats ≡ seats_of plan.now standing.top self.old.node }
+        requires roster { self.old.node.roster.iterations ≡ plan.now.iterations }
+        ensures { self.new ≡ record { node = self.old.node; box = self.old.box; back = self.old.back; since = self.old.since; seats = self.old.seats; doing = doing_of plan.now round standing self.old.node self.old.box self.old.back self.old.since } }
+    {
+        self.doing = doing_of(
+            plan,
+            round,
+            standing,
+            &self.node,
+            &self.inbox,
+            self.back,
+            self.since,
+            &mut self.seats,
+        );
+    }
+
+    // Makes the first move that is due.
+    fn make_move<M: Placement>(
         &mut self,
         alloc: Global,
         plan: &Plan,
         script: &Script,
         map: &M,
+        cut: &mut Cut,
     ) -> Result<Outbox, Memory>
-        requires due { move_due plan.now self.old.node ≡ true }
-        requires sound { SlotSound (setting plan.now (faults_of script.now) (M.place map.now) (M.count map.now)) self.old }
-        ensures { IfOk result (λ out. record { slot = self.new; out = out } ≡ acted plan.now (node_packed plan.now (faults_of script.now) plan.now.iterations self.old.node) self.old.box) }
+        requires served { Served (setting plan.now (faults_of script.now) (M.place map.now) (M.count map.now)) cut.old self.old }
+        ensures { IfOk result (λ out. record { slot = self.new; cut = cut.new; out = out } ≡ slot_moved (setting plan.now (faults_of script.now) (M.place map.now) (M.count map.now)) cut.old self.old) }
     {
-        let _ = map;
-        nodes_keep();
-        let out = self.node.pack(alloc, plan, script, plan.iterations())?;
-        self.doing = doing_of(plan, &self.node, &self.inbox, &mut self.able);
+        match self.due_move(plan, cut) {
+            None => Ok(Outbox::new(alloc)),
+            Some(SlotMove::Pack { k }) => self.pack(alloc, plan, script, k, cut),
+            Some(due) => {
+                self.move_in(due, cut);
+                self.renew(plan, cut)?;
+                Ok(Outbox::new(alloc))
+            }
+        }
+    }
+}
+
+impl Slot {
+    // Makes a move on the agreement that isn't a pack.
+    fn move_in(&mut self, due: SlotMove, cut: &mut Cut)
+        requires slot { HasSlot cut.old self.old.node.slot }
+        requires may { MayMove due (slot_of cut.old self.old.node.slot) }
+        ensures cut { cut.new ≡ shifted self.old.node.slot due cut.old }
+        ensures slot { self.new ≡ with_back (back_by due self.old.back) self.old }
+    {
+        let slot = self.node.slot();
+        match due {
+            SlotMove::See => {
+                cut.see(slot);
+            }
+            SlotMove::Rewind { base } => {
+                cut.rewind(slot, base);
+                self.back = None;
+            }
+            SlotMove::Release => cut.release(slot),
+            SlotMove::Report => {
+                cut.report(slot);
+            }
+            SlotMove::Pack { .. } => (),
+            SlotMove::Begin { k } => {
+                cut.begin(slot, k);
+            }
+        }
+    }
+
+    // Packs at an iteration that all its elements have completed.
+    fn pack(
+        &mut self,
+        alloc: Global,
+        plan: &Plan,
+        script: &Script,
+        k: u64,
+        cut: &mut Cut,
+    ) -> Result<Outbox, Memory>
+        requires served { (place : List ℕ) (nodes : ℕ) → Keeps plan.now (faults_of script.now) place self.old.node }
+        requires may { MayPack (slot_of cut.old self.old.node.slot) }
+        ensures { IfOk result (λ out. record { slot = self.new; cut = cut.new; out = out } ≡ acted plan.now (packed_by self.old.node.slot cut.old) (node_packed plan.now (faults_of script.now) k self.old.node) self.old.box self.old.back Nothing) }
+    {
+        let slot = self.node.slot();
+        let out = self.node.pack(alloc, plan, script, k)?;
+        cut.pack(slot);
+        self.since = Since::Nothing;
+        self.renew(plan, cut)?;
         Ok(out)
     }
 }
 
-// What a slot would do next.
-fn doing_of(plan: &Plan, node: &Node, inbox: &Inbox, able: &mut Able) -> Option<Doing>
-    requires { able.old ≡ ables plan.now node.now }
-    ensures doing { result ≡ doing_of plan.now node.now inbox.now }
-    ensures stays { able.new ≡ able.old }
+// The base to which a slot has to go back, after a letter.
+fn back_after(letter: &Letter, back: Option<u64>) -> Option<u64>
+    ensures { result ≡ back_after letter.now back }
 {
-    if inbox.has_letter() {
-        Some(Doing::Hear)
-    } else {
-        node_doing(plan, node, able)
+    match letter {
+        Letter::Parcel { .. } => back,
+        Letter::Partial { .. } => back,
+        Letter::Total { .. } => back,
+        Letter::Piece { .. } => back,
+        Letter::VerdictOf { .. } => back,
+        Letter::Lend { .. } => back,
+        Letter::Take { iteration, .. } => Some(*iteration),
+        Letter::Restore { iteration, .. } => Some(*iteration),
+        Letter::Commit { .. } => back,
+        Letter::Resume { .. } => back,
+        Letter::Died { .. } => back,
+        Letter::Stop => back,
     }
 }
 
-// Whether all elements are through is asked only where none can run, since that looks at all of them.
-#[tactic(auto, using(crate::proofs::Busy::it_runs, crate::proofs::Busy::it_moves, crate::proofs::Busy::it_stays))]
-fn node_doing(plan: &Plan, node: &Node, able: &mut Able) -> Option<Doing>
-    requires { able.old ≡ ables plan.now node.now }
-    ensures doing { result ≡ node_doing plan.now node.now }
-    ensures stays { able.new ≡ able.old }
+// Which orders a slot heard since it last packed, after a letter.
+fn since_after(letter: &Letter, since: Since) -> Since
+    ensures { result ≡ since_after letter.now since }
 {
-    if let Some(e) = first_running(plan, node, able) {
-        return Some(Doing::Run(e));
-    }
-    if move_due(plan, node) {
-        Some(Doing::Move)
-    } else {
-        None
+    match letter {
+        Letter::Parcel { .. } => since,
+        Letter::Partial { .. } => since,
+        Letter::Total { .. } => since,
+        Letter::Piece { .. } => since,
+        Letter::VerdictOf { .. } => since,
+        Letter::Lend { .. } => since,
+        Letter::Take { .. } => ordered_after(since),
+        Letter::Restore { .. } => ordered_after(since),
+        Letter::Commit { .. } => ordered_after(since),
+        Letter::Resume { .. } => resumed_after(since),
+        Letter::Died { .. } => since,
+        Letter::Stop => since,
     }
 }
 
-// The least element that can run.
-#[tactic(auto, using(crate::proofs::Ables::rests_is, crate::proofs::Ables::none_is, crate::proofs::Ables::some_is))]
-fn first_running(plan: &Plan, node: &Node, able: &mut Able) -> Option<ElementId>
-    requires { able.old ≡ ables plan.now node.now }
-    ensures first { result ≡ first_running plan.now plan.now.iterations node.now }
-    ensures stays { able.new ≡ able.old }
+fn ordered_after(since: Since) -> Since
+    ensures { result ≡ ordered_after since }
 {
-    let _ = plan;
-    if node.rests() {
-        return None;
-    }
-    match able.first() {
-        None => None,
-        Some(seat) => node.element_of_seat(seat),
+    match since {
+        Since::Nothing => Since::Ordered,
+        Since::Ordered => Since::Ordered,
+        Since::Resumed => Since::Resumed,
     }
 }
 
-fn move_due(plan: &Plan, node: &Node) -> bool
-    ensures { result ≡ move_due plan.now node.now }
+fn resumed_after(since: Since) -> Since
+    ensures { result ≡ resumed_after since }
 {
-    !node.rests() && node.all_at(plan.iterations()) && !node.has_packed()
+    match since {
+        Since::Nothing => Since::Nothing,
+        Since::Ordered => Since::Resumed,
+        Since::Resumed => Since::Resumed,
+    }
 }
 
 // The letters of a turn.

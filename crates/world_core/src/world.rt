@@ -4,36 +4,44 @@ ghost use Rattle.std.specs.Prelude.{◌≡◌, ◌↔◌, ℕ, List, [], length,
 ghost use Rattle.std.specs.List.{AllByRecursion};
 ghost use Rattle.chare_base.specs.Elements.{elements};
 ghost use Rattle.fault_script.specs.Lines.{faults_of};
-ghost use Rattle.node_core.specs.Keeps.{Fitted};
-ghost use Rattle.world_core.specs.Sound.{Sound};
-ghost use Rattle.world_core.specs.Steps.{Current, is_enabled, setting};
-ghost use Rattle.world_core.specs.Worlds.{desk_event, enabled, happens, opening_world};
+ghost use Rattle.conductor_core.specs.Conductors.{IsOf, conductor_did};
+ghost use Rattle.fault_script.specs.declared.fault.Fault.{Fault};
+ghost use Rattle.iteration_agree.specs.Cuts.{HasSlot};
+ghost use Rattle.world_core.specs.Steps.{Renews};
+ghost use Rattle.world_core.specs.Sound.{Serves};
+ghost use Rattle.world_core.specs.Steps.{Fresh, can_act, is_enabled, setting};
+ghost use Rattle.world_core.specs.Worlds.{by_slot, conductor_due, conductor_made, desk_event, did_in, does, enabled, happens, opening_world, saw_in, slot_at, takes_move};
 
+use crate::conducting::{move_due, takes_move};
+use crate::doing::Doing;
 use crate::event::{Actor, Event};
 use crate::fault::StepFault;
 use crate::inbox::Inbox;
-use crate::laws::sound_worlds_serve;
-use crate::posts::{deliver, event_due, hear_at, move_at, run_at, slot_event, start_slots};
+use crate::posts::{act_at, can_act, deliver, renew_all, slot_event, start_slots};
 use crate::slot::Slot;
 use chare_base::memory::Memory;
 use chare_base::options::Options;
 use chare_base::placement::Placement;
 use chare_base::plan::Plan;
+use chare_base::slots::SlotId;
 use conductor_core::conductor::Conductor;
 use conductor_core::ending::Ending;
+use conductor_core::wants::{CutAnswer, CutMove};
 use fault_script::script::Script;
+use iteration_agree::cut::Cut;
 use std::alloc::Global;
 use std::marker::Model;
 
 /// The world of a run: the slots of both replicas with their nodes and inboxes, and the conductor with its own inbox.
 ///
 /// Contracts see a `WorldState` of `specs/Worlds`. Each call is given the plan, the script and the placement with which
-/// the world was started. `Sound` is what holds of every world that events reach, by the law `worlds_are_sound`; what
-/// calls ask of a world follows from it by the law `sound_worlds_serve`.
+/// the world was started. `Serves` is what calls ask of a world: it holds of every world that events reach, by the laws
+/// `worlds_are_sound` and `sound_worlds_serve`.
 #[derive(Drop)]
 pub struct World {
     slots: Vec<Slot>,
     desk: Inbox,
+    cut: Cut,
     conductor: Conductor,
     over: bool,
 }
@@ -43,7 +51,7 @@ impl Model for World {
 
     ghost Value = { WorldState };
 
-    ghost view = { λ w. record { posts = record { slots = w.slots.items; desk = w.desk }; conductor = w.conductor; over = w.over } };
+    ghost view = { λ w. record { posts = record { slots = w.slots.items; desk = w.desk }; cut = w.cut; conductor = w.conductor; over = w.over } };
 }
 
 impl World {
@@ -60,14 +68,17 @@ impl World {
     ) -> Result<World, Memory>
         requires place { length (M.place map.now) ≡ elements plan.now }
         requires nodes { M.count map.now ≡ options.now.nodes }
-        ensures { IfOk result (λ w. w ≡ opening_world (setting plan.now (faults_of script.now) (M.place map.now) (M.count map.now))) }
+        requires few { options.now.nodes ≤ 32 }
+        ensures { IfOk result (λ w. w ≡ opening_world (setting plan.now (faults_of script.now) (M.place map.now) (M.count map.now)) options.now) }
     {
         let mut slots = Vec::new(alloc);
-        start_slots(alloc, plan, script, map, 0, &mut slots)?;
-        start_slots(alloc, plan, script, map, 1, &mut slots)?;
+        let cut = Cut::start(alloc, options.nodes)?;
+        start_slots(alloc, plan, script, map, 0, &cut, &mut slots)?;
+        start_slots(alloc, plan, script, map, 1, &cut, &mut slots)?;
         Ok(World {
             slots,
             desk: Inbox::new(alloc),
+            cut,
             conductor: Conductor::start(alloc, plan, script, options)?,
             over: false,
         })
@@ -85,15 +96,17 @@ impl World {
     /// time than finding the slot.
     #[tactic(auto, unfolding(crate::specs::Worlds::enabled))]
     pub fn enabled<M: Placement>(&self, plan: &Plan, map: &M, actor: Actor) -> Option<Event>
-        requires { AllByRecursion (Current plan.now) self.now.posts.slots }
+        requires { AllByRecursion (Fresh plan.now self.now.cut) self.now.posts.slots }
         ensures { result ≡ enabled plan.now (M.count map.now) self.now actor }
     {
         if self.conductor.ended() {
             return None;
         }
         match actor {
-            Actor::Slot(slot) => slot_event(plan, map.nodes(), self.slots.as_slice(), slot),
-            Actor::Conductor => desk_event(&self.desk),
+            Actor::Slot(slot) => {
+                slot_event(plan, map.nodes(), &self.cut, self.slots.as_slice(), slot)
+            }
+            Actor::Conductor => self.desk_event(),
         }
     }
 
@@ -101,13 +114,51 @@ impl World {
     /// in any order, whatever lies in its inbox. None can once the run has ended. It takes no memory.
     #[tactic(auto, unfolding(crate::specs::Steps::is_enabled))]
     pub fn is_enabled<M: Placement>(&self, plan: &Plan, map: &M, event: Event) -> bool
-        requires { AllByRecursion (λ x. Fitted plan.now x.node) self.now.posts.slots }
+        requires { AllByRecursion (Fresh plan.now self.now.cut) self.now.posts.slots }
         ensures { result ≡ is_enabled plan.now (M.count map.now) self.now event }
     {
         if self.conductor.ended() {
             return false;
         }
-        event_due(plan, map.nodes(), self.slots.as_slice(), &self.desk, event)
+        match event {
+            Event::Run { slot, element } => self.can_act(plan, map, slot, Doing::Run(element)),
+            Event::Hear { slot } => self.can_act(plan, map, slot, Doing::Hear),
+            Event::Move { slot } => self.can_act(plan, map, slot, Doing::Move),
+            Event::ConductorHear => self.desk.has_letter(),
+            Event::ConductorMove => self.conductor_due(),
+        }
+    }
+
+    fn can_act<M: Placement>(&self, plan: &Plan, map: &M, slot: SlotId, doing: Doing) -> bool
+        requires { AllByRecursion (Fresh plan.now self.now.cut) self.now.posts.slots }
+        ensures { result ≡ can_act plan.now self.now.cut doing (slot_at (M.count map.now) self.now.posts.slots slot) }
+    {
+        can_act(plan, map.nodes(), &self.cut, self.slots.as_slice(), slot, doing)
+    }
+
+    // The event that the conductor would make.
+    fn desk_event(&self) -> Option<Event>
+        ensures { result ≡ desk_event self.now self.now.posts.desk }
+    {
+        if self.desk.has_letter() {
+            return Some(Event::ConductorHear);
+        }
+        if self.conductor_due() {
+            Some(Event::ConductorMove)
+        } else {
+            None
+        }
+    }
+
+    fn conductor_due(&self) -> bool
+        ensures { result ≡ conductor_due self.now }
+    {
+        let wanted = self.conductor.wants();
+        if takes_move(&self.cut, wanted) {
+            move_due(&self.cut, &self.conductor, wanted)
+        } else {
+            false
+        }
     }
 
     /// An event happens: what it sends is put at the backs of inboxes.
@@ -122,14 +173,13 @@ impl World {
         event: Event,
     ) -> Result<(), StepFault>
         requires place { length (M.place map.now) ≡ elements plan.now }
-        requires sound { Sound (setting plan.now (faults_of script.now) (M.place map.now) (M.count map.now)) self.old }
+        requires serves { Serves (setting plan.now (faults_of script.now) (M.place map.now) (M.count map.now)) self.old }
         requires going { self.old.over ≡ false }
         ensures ok { OnOk result (self.new ≡ happens (setting plan.now (faults_of script.now) (M.place map.now) (M.count map.now)) self.old event) }
         ensures refused { (result ≡ Err StepFault.NotEnabled) ↔ (is_enabled plan.now (M.count map.now) self.old event ≡ false) }
         ensures unchanged { result ≡ Err StepFault.NotEnabled → self.new ≡ self.old }
         ensures over { result ≡ Err StepFault.Memory → self.new.over ≡ true }
     {
-        sound_worlds_serve();
         if !self.is_enabled(plan, map, event) {
             return Err(StepFault::NotEnabled);
         }
@@ -153,38 +203,15 @@ impl World {
         event: Event,
     ) -> Result<(), Memory>
         requires place { length (M.place map.now) ≡ elements plan.now }
-        requires sound { Sound (setting plan.now (faults_of script.now) (M.place map.now) (M.count map.now)) self.old }
+        requires serves { Serves (setting plan.now (faults_of script.now) (M.place map.now) (M.count map.now)) self.old }
         ensures { OnOk result (self.new ≡ happens (setting plan.now (faults_of script.now) (M.place map.now) (M.count map.now)) self.old event) }
     {
         match event {
-            Event::Run { slot, element } => run_at(
-                alloc,
-                plan,
-                script,
-                map,
-                slot,
-                element,
-                &mut self.slots,
-                &mut self.desk,
-            ),
-            Event::Hear { slot } => hear_at(
-                alloc,
-                plan,
-                script,
-                map,
-                slot,
-                &mut self.slots,
-                &mut self.desk,
-            ),
-            Event::Move { slot } => move_at(
-                alloc,
-                plan,
-                script,
-                map,
-                slot,
-                &mut self.slots,
-                &mut self.desk,
-            ),
+            Event::Run { slot, element } => {
+                self.slot_acts(alloc, plan, script, map, slot, Doing::Run(element))
+            }
+            Event::Hear { slot } => self.slot_acts(alloc, plan, script, map, slot, Doing::Hear),
+            Event::Move { slot } => self.slot_acts(alloc, plan, script, map, slot, Doing::Move),
             Event::ConductorHear => match self.desk.take() {
                 Some(letter) => {
                     let out = self.conductor.hear(alloc, plan, map, letter)?;
@@ -192,8 +219,110 @@ impl World {
                 }
                 None => Ok(()),
             },
-            Event::ConductorMove => Ok(()),
+            Event::ConductorMove => {
+                let wanted = self.conductor.wants();
+                if takes_move(&self.cut, wanted) {
+                    self.make_move(alloc, plan, map, wanted)
+                } else {
+                    Ok(())
+                }
+            }
         }
+    }
+
+    fn slot_acts<M: Placement>(
+        &mut self,
+        alloc: Global,
+        plan: &Plan,
+        script: &Script,
+        map: &M,
+        slot: SlotId,
+        doing: Doing,
+    ) -> Result<(), Memory>
+        requires place { length (M.place map.now) ≡ elements plan.now }
+        requires serves { Serves (setting plan.now (faults_of script.now) (M.place map.now) (M.count map.now)) self.old }
+        ensures { OnOk result (self.new ≡ by_slot (setting plan.now (faults_of script.now) (M.place map.now) (M.count map.now)) slot self.old (does (setting plan.now (faults_of script.now) (M.place map.now) (M.count map.now)) self.old.cut doing) (slot_at (M.count map.now) self.old.posts.slots slot)) }
+    {
+        act_at(
+            alloc,
+            plan,
+            script,
+            map,
+            slot,
+            doing,
+            &mut self.cut,
+            &mut self.slots,
+            &mut self.desk,
+        )
+    }
+
+    // The conductor makes a move that the agreement takes.
+    fn make_move<M: Placement>(
+        &mut self,
+        alloc: Global,
+        plan: &Plan,
+        map: &M,
+        wanted: CutMove,
+    ) -> Result<(), Memory>
+        requires place { length (M.place map.now) ≡ elements plan.now }
+        requires nodes { IsOf (M.count map.now) self.old.conductor }
+        requires renews { AllByRecursion (Renews plan.now self.old.cut) self.old.posts.slots }
+        requires takes { takes_move self.old.cut wanted ≡ true }
+        ensures { (script : List Fault) → OnOk result (self.new ≡ conductor_made (setting plan.now script (M.place map.now) (M.count map.now)) self.old wanted) }
+    {
+        match wanted {
+            CutMove::None => Ok(()),
+            CutMove::Look { slot } => self.see(alloc, plan, map, slot),
+            CutMove::OpenRound { floor } => {
+                self.cut.open_round(floor);
+                renew_all(plan, &self.cut, &mut self.slots)?;
+                self.did(alloc, plan, map, CutAnswer::Nothing)
+            }
+            CutMove::Note { slot } => self.see(alloc, plan, map, slot),
+            CutMove::Agree { taking } => {
+                let agreed = self.cut.agree(taking);
+                renew_all(plan, &self.cut, &mut self.slots)?;
+                self.did(alloc, plan, map, CutAnswer::Agreed(agreed))
+            }
+            CutMove::Quiet => {
+                self.cut.quiet();
+                renew_all(plan, &self.cut, &mut self.slots)?;
+                self.did(alloc, plan, map, CutAnswer::Nothing)
+            }
+        }
+    }
+
+    // The conductor sees a slot, whose cap is noted where the round gathers.
+    fn see<M: Placement>(
+        &mut self,
+        alloc: Global,
+        plan: &Plan,
+        map: &M,
+        slot: SlotId,
+    ) -> Result<(), Memory>
+        requires place { length (M.place map.now) ≡ elements plan.now }
+        requires nodes { IsOf (M.count map.now) self.old.conductor }
+        requires slot { HasSlot self.old.cut slot }
+        ensures { (script : List Fault) → OnOk result (self.new ≡ saw_in (setting plan.now script (M.place map.now) (M.count map.now)) slot self.old) }
+    {
+        let sight = self.cut.note(slot);
+        self.did(alloc, plan, map, CutAnswer::Seen(sight))
+    }
+
+    // The conductor hears what its move was answered, and its letters go to inboxes.
+    fn did<M: Placement>(
+        &mut self,
+        alloc: Global,
+        plan: &Plan,
+        map: &M,
+        answer: CutAnswer,
+    ) -> Result<(), Memory>
+        requires place { length (M.place map.now) ≡ elements plan.now }
+        requires nodes { IsOf (M.count map.now) self.old.conductor }
+        ensures { (script : List Fault) → OnOk result (self.new ≡ did_in (setting plan.now script (M.place map.now) (M.count map.now)) (conductor_did plan.now (M.place map.now) answer self.old.conductor) self.old) }
+    {
+        let out = self.conductor.did(alloc, plan, map, answer)?;
+        deliver(map.nodes(), out, &mut self.slots, &mut self.desk)
     }
 
     /// What the run leaves; None exactly where it hasn't ended. The world is given up then too. It takes no memory.
@@ -205,15 +334,5 @@ impl World {
         ensures last { IfSome result (λ ending. ending.last ≡ self.conductor.last) }
     {
         self.conductor.end()
-    }
-}
-
-fn desk_event(desk: &Inbox) -> Option<Event>
-    ensures { result ≡ desk_event desk.now }
-{
-    if desk.has_letter() {
-        Some(Event::ConductorHear)
-    } else {
-        None
     }
 }

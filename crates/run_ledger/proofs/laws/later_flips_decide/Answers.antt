@@ -1,8 +1,0 @@
-use Rattle.run_ledger.proofs.Folds.{inside, later}
-use Rattle.run_ledger.proofs.laws.later_flips_decide.Goals as goal
-
-pub returns-clause-states : goal.returns-clause-states
-returns-clause-states c = later
-
-pub returns-clause-inside : goal.returns-clause-inside
-returns-clause-inside c = inside
