@@ -183,6 +183,16 @@ pub fn release(slot: &mut Slot)
     slot.free = true;
 }
 
+/// What the conductor sees of the slot in a round.
+pub fn sight_of(round: Round, slot: &Slot) -> Sight
+    ensures { result ≡ sight_of round slot.now }
+{
+    Sight {
+        top: slot.top,
+        cap: cap_in(number(round), slot.cap),
+    }
+}
+
 /// What the conductor sees of the slot in a round. A cap of a round that gathers is noted.
 pub fn note(round: Round, slot: &mut Slot) -> Sight
     ensures sight { result ≡ sight_of round slot.old }
