@@ -153,14 +153,9 @@ fn if_of(alloc: Global, tokens: &[Token], levels: u32) -> Result<(StmtDecl, &[To
 {
     let (at, rest) = mark_of(tokens, Mark::If)?;
     let (test, rest) = expr_of(alloc, rest, levels)?;
-    let (block, rest) = block_of(alloc, rest, levels)?;
-    let (other, rest) = else_of(alloc, rest, levels)?;
-    let statement = StmtDecl::If {
-        at,
-        test,
-        block,
-        other,
-    };
+    let (yes, rest) = block_of(alloc, rest, levels)?;
+    let (no, rest) = else_of(alloc, rest, levels)?;
+    let statement = StmtDecl::If { at, test, yes, no };
     Ok((statement, rest))
 }
 

@@ -185,8 +185,8 @@ pub enum StmtDecl {
     If {
         at: u32,
         test: Expr,
-        block: Block,
-        other: Option<Block>,
+        yes: Block,
+        no: Option<Block>,
     },
     /// `for NAME in snum .. snum block`.
     For {
