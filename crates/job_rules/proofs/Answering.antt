@@ -1,14 +1,11 @@
 -- Answers that break no rule, and their plans.
-use Rattle.std.proofs.Common.{◌≡◌, ℕ, zero, suc, ◌+◌, ◌*◌, ◌<◌, ◌≤◌, Bool, true, false, List, [], ◌∷◌, length, map, refl, ap, sym, ◌∙◌, subst, arith, Option, None, Some}
-use Rattle.std.specs.Prelude.{◌&&◌, not, min, nat_le, nat_lt, slice_get}
+use Rattle.std.proofs.Common.{◌≡◌, ℕ, zero, suc, ◌+◌, ◌*◌, ◌<◌, ◌≤◌, Bool, true, false, List, [], ◌∷◌, length, map, refl, ap, sym, ◌∙◌, arith, Option, None, Some}
+use Rattle.std.specs.Prelude.{◌&&◌, not, nat_le, nat_lt, slice_get}
 use Rattle.std.specs.List.{list_all, list_any}
 use Rattle.std.proofs.lemmas.Bool.{and_parts, le-leb, lt-ltb, ltb-true}
 use Rattle.std.proofs.lemmas.Option.{slice_get_within}
 use Rattle.std.proofs.Math.Nat.{mul-le-mul_right}
-use Rattle.chare_base.specs.declared.plan.Answer.{Answer}
 use Rattle.chare_base.specs.declared.plan.Array.{Array}
-use Rattle.chare_base.specs.declared.plan.State.{State}
-use Rattle.chare_base.specs.declared.range.Range.{Range}
 use Rattle.chare_base.specs.Ranges.{answer_in_range, cell_of_array, state_there}
 use Rattle.chare_base.specs.Sizes.{cells_in, size_of}
 use Rattle.job_tree.specs.declared.token.Num.{Num}
@@ -23,8 +20,8 @@ use Rattle.job_rules.specs.declared.names.Meaning.{Meaning}
 use Rattle.job_rules.specs.declared.names.Meaning.TheVariants as meanings
 use Rattle.job_rules.specs.declared.tables.JobNames.{JobNames}
 use Rattle.job_rules.specs.Answers.{answer_fault, answers_found, at_fault, below, cell_fault, coordinates_fault, element_fault, index_fault, over_fault, state_fault}
-use Rattle.job_rules.specs.Faults.{Found, fault_if, first_of, name_fault, nothing, sooner}
-use Rattle.job_rules.specs.Names.{Known, bytes_at, lookup}
+use Rattle.job_rules.specs.Faults.{Found, name_fault, nothing, sooner}
+use Rattle.job_rules.specs.Names.{bytes_at, lookup}
 use Rattle.job_rules.specs.PlannedAnswers as p
 use Rattle.job_rules.specs.PlannedAnswers.{answer_planned, cell_in, cell_written, element_in, element_or_none, index_written}
 use Rattle.job_rules.specs.PlannedArrays.{array_planned, cols_planned, cols_written, rows_planned, rows_written, states_planned}

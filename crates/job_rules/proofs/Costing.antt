@@ -1,5 +1,5 @@
 -- A plan costs what its tree does.
-use Rattle.std.proofs.Common.{◌≡◌, ℕ, ℤ, suc, ◌+◌, ◌*◌, ◌-ℤ◌, Bool, true, false, List, [], ◌∷◌, ◌++◌, length, map, refl, ap, sym, ◌∙◌, subst, Option, None, Some}
+use Rattle.std.proofs.Common.{◌≡◌, ℕ, ℤ, suc, ◌+◌, ◌*◌, ◌-ℤ◌, Bool, List, [], ◌∷◌, ◌++◌, length, map, refl, ap, sym, ◌∙◌, subst, Option, None, Some}
 use Rattle.std.specs.Prelude.{◌&&◌, nat_le}
 use Rattle.std.specs.List.{list_all}
 use Rattle.chare_base.specs.declared.expression.Expr.{Expr}
@@ -20,7 +20,7 @@ use Rattle.job_tree.specs.declared.tree.StepBody.TheVariants as bodies
 use Rattle.job_tree.specs.declared.tree.StepDecl.{StepDecl}
 use Rattle.job_tree.specs.declared.tree.StmtDecl.{StmtDecl, roll-StmtDecl}
 use Rattle.job_tree.specs.declared.tree.StmtDecl.TheOpen.{Block-F, StmtDecl-F}
-use Rattle.job_tree.specs.declared.tree.StmtDecl.TheFolds.{fold-roll-Block, fold-roll-StmtDecl, map-StmtDecl, map-Block, ind-StmtDecl, ind-Block}
+use Rattle.job_tree.specs.declared.tree.StmtDecl.TheFolds.{fold-roll-Block, fold-roll-StmtDecl, map-StmtDecl, ind-Block}
 use Rattle.job_rules.specs.declared.tables.JobNames.{JobNames}
 use Rattle.job_rules.specs.Costs as t
 use Rattle.job_rules.specs.Names.{Known, bytes_at, lookup, names_listed}
@@ -28,7 +28,7 @@ use Rattle.job_rules.specs.PlannedArrays.{arrays_from, size_planned}
 use Rattle.job_rules.specs.PlannedExpressions.{place_planned, value_planned, values_planned}
 use Rattle.job_rules.specs.PlannedNames.{entry_meant, member, range_or_none, reduction_meant, state_range}
 use Rattle.job_rules.specs.Numbers.{narrow8, narrow32, signed64}
-use Rattle.job_rules.specs.PlannedStatements.{Within, assigned, block_planned, block_step, each_planned, other_planned, stmt_planned, stmt_step}
+use Rattle.job_rules.specs.PlannedStatements.{Within, assigned, block_planned, block_step, each_planned, stmt_planned, stmt_step}
 use Rattle.job_rules.specs.PlannedSteps.{body_planned, part_planned, step_planned}
 use Rattle.job_rules.specs.Tables.{table_at}
 

@@ -1,6 +1,6 @@
 -- Where no count is too great, and no written number outside its range.
-use Rattle.std.proofs.Common.{◌≡◌, ℕ, zero, suc, ◌+◌, ◌*◌, ◌<◌, ◌≤◌, Bool, true, false, List, [], ◌∷◌, length, refl, ap, sym, ◌∙◌, arith, Option, None, Some}
-use Rattle.std.specs.Prelude.{◌&&◌, not, nat_lt, nat_le, min}
+use Rattle.std.proofs.Common.{◌≡◌, ℕ, suc, ◌+◌, ◌*◌, ◌<◌, ◌≤◌, Bool, true, false, List, [], ◌∷◌, length, refl, ap, ◌∙◌, arith, Some}
+use Rattle.std.specs.Prelude.{◌&&◌, not, nat_lt, nat_le}
 use Rattle.std.specs.List.{list_all}
 use Rattle.std.proofs.lemmas.Bool.{and_parts, le-leb, leb-true, ltb-false}
 use Rattle.chare_base.specs.Costs.{capped}
@@ -19,7 +19,7 @@ use Rattle.job_rules.specs.declared.fault.LimitKind.{LimitKind}
 use Rattle.job_rules.specs.declared.fault.LimitKind.TheVariants.{Arrays, States, Entries, Steps, Parts, Answers, Elements, Cells, AllCells, Cost}
 use Rattle.job_rules.specs.Bounds.{array_bounds, arrays_bounds, bounds_found, member_bound, outside, size_fault, state_bound}
 use Rattle.job_rules.specs.Costs.{step_cost}
-use Rattle.job_rules.specs.Faults.{Found, fault_if, first_of, nothing, sooner}
+use Rattle.job_rules.specs.Faults.{Found, first_of, nothing, sooner}
 use Rattle.job_rules.specs.Limits.{answer_over, answered_at, answers_over, array_over, arrays_over, body_over, elements_written, limits_found, members_over, over, own_over, parts_over, state_over, states_over, step_over, steps_over, with_all_cells, with_cells}
 use Rattle.job_rules.specs.Ports.{declared_at}
 use Rattle.job_rules.specs.Tables.{cells_written}

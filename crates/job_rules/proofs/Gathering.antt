@@ -1,21 +1,15 @@
 -- Entries and reductions that break no rule.
-use Rattle.std.proofs.Common.{◌≡◌, ℕ, ℤ, pos, negsuc, zero, suc, ◌+◌, ◌<◌, ◌≤◌, ◌-ℤ◌, Bool, true, false, List, [], ◌∷◌, ◌++◌, length, refl, ap, sym, ◌∙◌, subst, arith, Option, None, Some}
-use Rattle.std.specs.Prelude.{◌&&◌, ◌||◌, ◌==◌, not, min, nat_le, nat_lt, is_none, is_some, if◌then◌else◌, slice_get}
-use Rattle.std.specs.List.{AllByRecursion, list_all, list_any}
-use Rattle.std.specs.Option.{option_map_or}
-use Rattle.std.specs.Str.{bytes_eq}
-use Rattle.std.proofs.lemmas.Bool.{and_parts, eq-eqb, eqb-true, le-leb, leb-true, lt-ltb}
-use Rattle.chare_base.specs.declared.message.Port.{Port}
-use Rattle.chare_base.specs.declared.message.Port.TheVariants as ports
+use Rattle.std.proofs.Common.{◌≡◌, ℕ, ℤ, zero, suc, ◌<◌, ◌≤◌, Bool, true, false, List, [], ◌∷◌, ◌++◌, length, refl, ap, sym, ◌∙◌, subst, arith, Option, None, Some}
+use Rattle.std.specs.Prelude.{◌&&◌, ◌||◌, ◌==◌, not, min, is_none, slice_get}
+use Rattle.std.specs.List.{AllByRecursion}
+use Rattle.std.proofs.lemmas.Bool.{and_parts, eq-eqb, eqb-true, le-leb}
 use Rattle.chare_base.specs.declared.plan.Array.{Array}
 use Rattle.chare_base.specs.declared.plan.Entry.{Entry}
 use Rattle.chare_base.specs.declared.plan.Reduction.{Reduction}
-use Rattle.chare_base.specs.declared.plan.State.{State}
 use Rattle.chare_base.specs.Limits.{between, entry_fits, name_fits, offset_fits, reduction_fits}
 use Rattle.chare_base.specs.Ports.{entry_port, total_port}
-use Rattle.chare_base.specs.Ranges.{entry_in_range, exchanged, no_offset, reduction_in_range, same_shape}
+use Rattle.chare_base.specs.Ranges.{entry_in_range, exchanged, no_offset, same_shape}
 use Rattle.job_tree.specs.declared.token.Num.{Num}
-use Rattle.job_tree.specs.declared.token.Span.{Span}
 use Rattle.job_tree.specs.declared.tree.ArrayDecl.{ArrayDecl}
 use Rattle.job_tree.specs.declared.tree.Coordinates.{Coordinates}
 use Rattle.job_tree.specs.declared.tree.EntryDecl.{EntryDecl}
@@ -27,17 +21,17 @@ use Rattle.job_rules.specs.declared.fault.CheckFault.TheVariants.{Twice}
 use Rattle.job_rules.specs.declared.notes.PortUse.{PortUse}
 use Rattle.job_rules.specs.declared.tables.Counts.{Counts}
 use Rattle.job_rules.specs.declared.tables.JobNames.{JobNames}
-use Rattle.job_rules.specs.Bounds.{entry_bound, member_bound, offset_fault, outside, outside_if}
-use Rattle.job_rules.specs.Declarations.{array_differs, declared_fault, dimensions_differ, is_port, member_fault, port_declared, second_differs, sizes_differ, source_differs, source_fault}
-use Rattle.job_rules.specs.Faults.{Found, fault_if, name_fault, nothing, sooner}
-use Rattle.job_rules.specs.Names.{Known, bytes_at}
+use Rattle.job_rules.specs.Bounds.{entry_bound, member_bound, offset_fault, outside_if}
+use Rattle.job_rules.specs.Declarations.{array_differs, dimensions_differ, is_port, member_fault, port_declared, second_differs, sizes_differ, source_fault}
+use Rattle.job_rules.specs.Faults.{fault_if, name_fault, nothing, sooner}
+use Rattle.job_rules.specs.Names.{bytes_at}
 use Rattle.job_rules.specs.PlannedArrays.{array_planned, cols_planned, cols_written, rows_planned, rows_written}
 use Rattle.job_rules.specs.PlannedMembers.{across_written, down_written, entries_of, entry_planned, reduction_planned, reductions_of}
 use Rattle.job_rules.specs.Numbers.{narrow8, narrow16, narrow32, number16, signed, signed8}
-use Rattle.job_rules.specs.Ports.{declared_at, port_fault, uses_of}
-use Rattle.job_rules.specs.Tables.{array_number, counts_after, counts_with, member_meaning, values_written}
+use Rattle.job_rules.specs.Ports.{port_fault, uses_of}
+use Rattle.job_rules.specs.Tables.{counts_after, counts_with, member_meaning, values_written}
 use Rattle.job_rules.proofs.Counting.{both, inside}
-use Rattle.job_rules.proofs.Declared.{MembersKept, SourceKept, source_kept}
+use Rattle.job_rules.proofs.Declared.{MembersKept, source_kept}
 use Rattle.job_rules.proofs.Laying.{Lies, between_is, name_kept}
 use Rattle.job_rules.proofs.Places.{IsBelow, Sound, array_below}
 use Rattle.job_rules.proofs.Sooner.{faultless, is_none-none, sooner_none, unbroken}

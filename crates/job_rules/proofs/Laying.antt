@@ -1,14 +1,12 @@
 -- Where no count is too great, elements and cells are numbered in text order, and all is within the limits of a plan.
-use Rattle.std.proofs.Common.{◌≡◌, ℕ, ℤ, pos, negsuc, zero, suc, ◌+◌, ◌-◌, ◌*◌, ◌<◌, ◌≤◌, ◌-ℤ◌, Bool, true, false, List, [], ◌∷◌, ◌++◌, length, map, take, drop, refl, ap, sym, ◌∙◌, subst, arith, Option, None, Some}
-use Rattle.std.specs.Prelude.{◌&&◌, ◌||◌, ◌==◌, not, min, nat_le, nat_lt, is_none, if◌then◌else◌, slice_get}
+use Rattle.std.proofs.Common.{◌≡◌, ℕ, zero, suc, ◌+◌, ◌-◌, ◌*◌, ◌<◌, ◌≤◌, true, false, List, [], ◌∷◌, length, map, drop, refl, ap, sym, ◌∙◌, subst, arith, Option, None, Some}
+use Rattle.std.specs.Prelude.{◌&&◌, ◌||◌, ◌==◌, not, min, nat_le, nat_lt, is_none, slice_get}
 use Rattle.std.specs.List.{AllByRecursion, list_all}
-use Rattle.std.proofs.lemmas.Bool.{and_parts, eq-eqb, eqb-true, le-leb, leb-true, ltb-false, ltb-true}
+use Rattle.std.proofs.lemmas.Bool.{and_parts, eq-eqb, le-leb, leb-true, ltb-false, ltb-true}
 use Rattle.std.proofs.lemmas.List.{length-drop, length-take}
 use Rattle.chare_base.specs.declared.plan.Array.{Array}
 use Rattle.chare_base.specs.declared.plan.State.{State}
-use Rattle.chare_base.specs.declared.plan.Step.{Step}
 use Rattle.chare_base.specs.Layout.{layout_holds, numbered_from, placed_from}
-use Rattle.chare_base.specs.Limits as r
 use Rattle.chare_base.specs.Limits.{array_fits, arrays_fit, between, name_fits, shape_fits, state_fits, states_fit, step_fits, steps_fit}
 use Rattle.chare_base.specs.Overlap.{state_range}
 use Rattle.chare_base.specs.Sizes.{all_cells_in, cells_in, elements_in, size_of}
@@ -18,8 +16,6 @@ use Rattle.job_tree.specs.declared.token.Num.{Num}
 use Rattle.job_tree.specs.declared.token.Span.{Span}
 use Rattle.job_tree.specs.declared.tree.ArrayDecl.{ArrayDecl}
 use Rattle.job_tree.specs.declared.tree.Coordinates.{Coordinates}
-use Rattle.job_tree.specs.declared.tree.MemberDecl.{MemberDecl}
-use Rattle.job_tree.specs.declared.tree.MemberDecl.TheVariants as members
 use Rattle.job_tree.specs.declared.tree.PartDecl.{PartDecl}
 use Rattle.job_tree.specs.declared.tree.StateDecl.{StateDecl}
 use Rattle.job_tree.specs.declared.tree.StepBody.{StepBody}
@@ -30,16 +26,16 @@ use Rattle.job_rules.specs.declared.fault.LimitKind.TheVariants.{Name}
 use Rattle.job_rules.specs.declared.tables.Counts.{Counts}
 use Rattle.job_rules.specs.declared.tables.JobNames.{JobNames}
 use Rattle.job_rules.specs.Bounds.{outside, outside_if, size_fault, state_bound}
-use Rattle.job_rules.specs.Declarations.{array_declared, declared_fault, is_array, is_state, state_declared}
+use Rattle.job_rules.specs.Declarations.{is_array, is_state}
 use Rattle.job_rules.specs.Faults.{Found, fault_if, name_fault, nothing}
 use Rattle.job_rules.specs.Limits.{elements_written, size_written}
 use Rattle.job_rules.specs.Names.{Known, bytes_at, lookup}
-use Rattle.job_rules.specs.PlannedArrays.{array_planned, array_with, arrays_from, cols_planned, cols_written, rows_planned, rows_written, size_planned, state_planned, states_planned}
+use Rattle.job_rules.specs.PlannedArrays.{array_planned, arrays_from, cols_planned, rows_planned, size_planned, state_planned, states_planned}
 use Rattle.job_rules.specs.Numbers.{narrow32}
 use Rattle.job_rules.specs.PlannedSteps.{body_planned, part_planned, step_planned}
 use Rattle.job_rules.specs.Tables.{cells_written, counts_after, member_meaning, table_at}
 use Rattle.job_rules.proofs.Counting.{ArrayBounded, ArrayCounted, ArraysBounded, ArraysCounted, both, cells_of_all, few_parts, inside, parts_in}
-use Rattle.job_rules.proofs.Declared.{ArrayKept, ArraysKept, StatesKept}
+use Rattle.job_rules.proofs.Declared.{ArraysKept, StatesKept}
 use Rattle.job_rules.proofs.Meant.{Apart}
 use Rattle.job_rules.proofs.Sooner.{faultless, is_none-none, sooner_none, unbroken}
 

@@ -1,15 +1,14 @@
 -- Names and words of an expression that break no rule, and what a plan has in their place.
-use Rattle.std.proofs.Common.{◌≡◌, ℕ, zero, suc, ◌+◌, ◌<◌, ◌≤◌, Bool, true, false, List, [], ◌∷◌, ◌++◌, length, refl, ap, sym, ◌∙◌, subst, arith, Option, None, Some}
-use Rattle.std.specs.Prelude.{◌&&◌, ◌||◌, ◌==◌, not, min, nat_lt, is_some, slice_get}
+use Rattle.std.proofs.Common.{◌≡◌, ℕ, zero, suc, ◌<◌, Bool, true, false, List, [], ◌∷◌, length, refl, ap, sym, ◌∙◌, subst, arith, Option, None, Some}
+use Rattle.std.specs.Prelude.{◌&&◌, ◌||◌, ◌==◌, not, is_some, slice_get}
 use Rattle.std.specs.List.{list_any}
-use Rattle.std.proofs.lemmas.Bool.{and_parts, eq-eqb, lt-ltb, or_left, or_right}
+use Rattle.std.proofs.lemmas.Bool.{eq-eqb, lt-ltb, or_left, or_right}
 use Rattle.std.proofs.lemmas.List.Folds.{list_any-append}
 use Rattle.std.proofs.lemmas.List.Quantifiers.{position-Some}
-use Rattle.chare_base.specs.declared.expression.Expr.{Expr, roll-Expr}
+use Rattle.chare_base.specs.declared.expression.Expr.{Expr}
 use Rattle.chare_base.specs.declared.expression.Expr.TheVariants as exprs
 use Rattle.chare_base.specs.declared.expression.Expr.TheOpen.{Expr-F}
 use Rattle.chare_base.specs.declared.plan.State.{State}
-use Rattle.chare_base.specs.declared.range.Range.{Range}
 use Rattle.chare_base.specs.declared.scope.Scope.{Scope}
 use Rattle.chare_base.specs.Overlap.{state_range}
 use Rattle.chare_base.specs.Ranges.{indexed_at, part_scope, plain_at}
@@ -21,7 +20,6 @@ use Rattle.job_tree.specs.declared.tree.Here.TheVariants as heres
 use Rattle.job_rules.specs.declared.fault.CheckFault.TheVariants as faults
 use Rattle.job_rules.specs.declared.names.Meaning.{Meaning}
 use Rattle.job_rules.specs.declared.names.Meaning.TheVariants as meanings
-use Rattle.job_rules.specs.declared.notes.Notes.{Notes}
 use Rattle.job_rules.specs.declared.notes.StateUse.{StateUse}
 use Rattle.job_rules.specs.declared.walk.Site.{Site}
 use Rattle.job_rules.specs.declared.walk.Site.TheVariants as sites
@@ -33,7 +31,7 @@ use Rattle.job_rules.specs.PlannedExpressions as p
 use Rattle.job_rules.specs.PlannedNames as n
 use Rattle.job_rules.specs.Numbers.{narrow8, narrow32}
 use Rattle.job_rules.proofs.Counting.{both}
-use Rattle.job_rules.proofs.Noting.{Clean, Goes, Good, GoodExpr, Words, alone, clean_none, expr_is_good, good_and, good_as, good_none, noted_goes, rolled, used_in, uses_state}
+use Rattle.job_rules.proofs.Noting.{Good, GoodExpr, Words, alone, clean_none, expr_is_good, good_and, noted_goes, rolled, used_in, uses_state}
 use Rattle.job_rules.proofs.Places.{Sound}
 use Rattle.job_rules.proofs.Sooner.{unbroken}
 

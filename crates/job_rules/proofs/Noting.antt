@@ -1,5 +1,5 @@
 -- What a walk over an expression notes is what its plan reads; and the plan names what is there alone.
-use Rattle.std.proofs.Common.{◌≡◌, ℕ, zero, suc, ◌<◌, ◌≤◌, Bool, true, false, List, [], ◌∷◌, ◌++◌, map, refl, ap, sym, ◌∙◌, subst, arith, Option, None, Some, pos, inl, inr}
+use Rattle.std.proofs.Common.{◌≡◌, ℕ, Bool, true, false, List, [], ◌∷◌, map, refl, sym, ◌∙◌, subst, Some, pos, inl, inr}
 use Rattle.std.specs.Prelude.{◌&&◌, ◌||◌, ◌==◌, slice_get}
 use Rattle.std.specs.List.{list_any}
 use Rattle.std.proofs.lemmas.Bool.{and_parts, or_cases, or_left}
@@ -20,7 +20,6 @@ use Rattle.job_tree.specs.declared.token.Span.{Span}
 use Rattle.job_tree.specs.declared.tree.Choice.{Choice}
 use Rattle.job_tree.specs.declared.tree.Choice.TheVariants as choices
 use Rattle.job_tree.specs.declared.tree.Here.{Here}
-use Rattle.job_tree.specs.declared.tree.Here.TheVariants as heres
 use Rattle.job_tree.specs.declared.tree.Atom.{Atom, roll-Atom}
 use Rattle.job_tree.specs.declared.tree.Test.{Test, roll-Test}
 use Rattle.job_tree.specs.declared.tree.Unary.{Unary, roll-Unary}
@@ -37,7 +36,7 @@ use Rattle.job_rules.specs.declared.notes.StateUse.{StateUse}
 use Rattle.job_rules.specs.declared.walk.Site.{Site}
 use Rattle.job_rules.specs.Expressions as w
 use Rattle.job_rules.specs.Expressions.{here_walked, name_walked}
-use Rattle.job_rules.specs.Faults.{Found, nothing, sooner}
+use Rattle.job_rules.specs.Faults.{Found, nothing}
 use Rattle.job_rules.specs.Names.{Known}
 use Rattle.job_rules.specs.Notes.{Walk, in_order, noted}
 use Rattle.job_rules.specs.PlannedExpressions as p

@@ -1,6 +1,6 @@
 -- Ports that break no rule are sent to once and received from once, in a later step.
-use Rattle.std.proofs.Common.{◌≡◌, ℕ, zero, suc, ◌+◌, ◌-◌, ◌*◌, ◌<◌, ◌≤◌, Bool, true, false, cond, List, [], ◌∷◌, ◌++◌, length, map, refl, ap, sym, ◌∙◌, subst, arith, Option, None, Some}
-use Rattle.std.specs.Prelude.{◌&&◌, ◌||◌, ◌==◌, not, is_none, is_some, if◌then◌else◌, nat_lt, filter, position, replicate, slice_get}
+use Rattle.std.proofs.Common.{◌≡◌, ℕ, zero, suc, ◌+◌, ◌<◌, Bool, true, false, cond, List, [], ◌∷◌, ◌++◌, length, map, refl, ap, sym, ◌∙◌, subst, arith, Option, None, Some}
+use Rattle.std.specs.Prelude.{◌&&◌, ◌==◌, not, is_none, if◌then◌else◌, nat_lt, position, replicate, slice_get}
 use Rattle.std.specs.List.{list_all, position_or_len}
 use Rattle.std.specs.Option.{option_map_or, option_or}
 use Rattle.std.proofs.lemmas.Bool.{and_parts, eq-eqb, eqb-true, lt-ltb, ltb-true}
@@ -18,16 +18,15 @@ use Rattle.chare_base.specs.declared.plan.State.{State}
 use Rattle.chare_base.specs.declared.plan.Step.{Step}
 use Rattle.chare_base.specs.declared.plan.Stmt.{Stmt, out-Stmt}
 use Rattle.chare_base.specs.declared.plan.Stmt.TheOpen.{Stmt-F}
-use Rattle.chare_base.specs.Ports.{before, block_sends, counted, entry_port, fed_by, parts_send, parts_take, port_holds, port_needed, same_port, sending_step, steps_in, steps_send, steps_take, stmt_sends, takes, taking_step, total_port}
-use Rattle.chare_base.specs.Ranges.{array_in_range, arrays_in_range, need_in_range, part_in_range, port_in_range, received_by, reduced_in, send_in_range, sends_in_range, sent_from, start_in_range, step_in_range, stmt_in_range, values_of}
-use Rattle.job_rules.specs.declared.fault.CheckFault.{CheckFault}
+use Rattle.chare_base.specs.Ports.{before, block_sends, counted, fed_by, parts_send, parts_take, port_holds, same_port, sending_step, steps_in, steps_send, steps_take, takes, taking_step}
+use Rattle.chare_base.specs.Ranges.{array_in_range, arrays_in_range, need_in_range, part_in_range, received_by, reduced_in, send_in_range, sends_in_range, sent_from, start_in_range, step_in_range, stmt_in_range, values_of}
 use Rattle.job_rules.specs.declared.fault.CheckFault.TheVariants.{NotOnce, TooEarly}
 use Rattle.job_rules.specs.declared.notes.PortUse.{PortUse}
-use Rattle.job_rules.specs.Faults.{Found, fault_if, first_of, nothing, sooner}
+use Rattle.job_rules.specs.Faults.{Found, first_of, nothing}
 use Rattle.job_rules.specs.Ports.{early_fault, extra_fault, nested_fault, once_fault, port_fault, too_few, too_many, uses_of}
 use Rattle.job_rules.proofs.Counting.{both}
 use Rattle.job_rules.proofs.Sending.{same_ports}
-use Rattle.job_rules.proofs.Sooner.{faultless, first_none, is_none-none, sooner_none, unbroken}
+use Rattle.job_rules.proofs.Sooner.{faultless, first_none, sooner_none, unbroken}
 use Rattle.job_rules.proofs.Stepping.{send_marks, take_marks}
 
 -- ---- what one port's uses are where no fault is named

@@ -1,19 +1,16 @@
 -- A tree that breaks no rule has a plan that keeps the rules of its type.
-use Rattle.std.proofs.Common.{◌≡◌, ℕ, zero, suc, ◌+◌, ◌*◌, ◌<◌, ◌≤◌, Bool, true, false, List, [], ◌∷◌, ◌++◌, length, map, refl, ap, sym, ◌∙◌, subst, arith, Option, None, Some}
-use Rattle.std.specs.Prelude.{IsTrue, ◌&&◌, ◌==◌, not, is_some, nat_le, nat_lt, slice_get}
+use Rattle.std.proofs.Common.{◌≡◌, ℕ, zero, suc, ◌+◌, ◌*◌, ◌≤◌, Bool, true, false, List, [], ◌∷◌, length, map, refl, ap, sym, ◌∙◌, subst, arith, None, Some}
+use Rattle.std.specs.Prelude.{IsTrue, ◌&&◌, not, nat_le, nat_lt, slice_get}
 use Rattle.std.specs.List.{AllByRecursion, list_all}
 use Rattle.std.proofs.lemmas.Bool.{and_parts, leb-true, ltb-true}
 use Rattle.std.proofs.lemmas.Option.{slice_get_within}
-use Rattle.chare_base.specs.declared.plan.Answer.{Answer}
 use Rattle.chare_base.specs.declared.plan.Array.{Array}
-use Rattle.chare_base.specs.declared.plan.Entry.{Entry}
-use Rattle.chare_base.specs.declared.plan.Reduction.{Reduction}
 use Rattle.chare_base.specs.declared.plan.State.{State}
 use Rattle.chare_base.specs.Costs.{capped, costs_hold}
 use Rattle.chare_base.specs.Layout.{layout_holds}
 use Rattle.chare_base.specs.Limits.{arrays_fit, between, limits_hold, members_fit, name_fits}
 use Rattle.chare_base.specs.Names.{array_name, distinct_by, names_hold, state_name}
-use Rattle.chare_base.specs.Overlap.{array_apart, overlaps_hold}
+use Rattle.chare_base.specs.Overlap.{overlaps_hold}
 use Rattle.chare_base.specs.Ports.{ports_hold}
 use Rattle.chare_base.specs.Ranges.{answer_in_range, arrays_in_range, entry_in_range, ranges_hold, reduction_in_range}
 use Rattle.chare_base.specs.Rules.{rules_hold}
@@ -31,7 +28,7 @@ use Rattle.job_tree.specs.declared.tree.StepDecl.{StepDecl}
 use Rattle.job_tree.specs.Accepted.{array_is_filled, is_filled, is_shallow, names_lie, span_lies, step_is_filled, word_lies}
 use Rattle.job_tree.specs.Spelling as s
 use Rattle.job_tree.specs.Word.{Word, level_of}
-use Rattle.job_tree.proofs.Parts.{ArrayWords, BodyWords, Holds, JobWords, array_words, job_levels, job_names as names_told, member_words, part_words, state_words, step_words}
+use Rattle.job_tree.proofs.Parts.{BodyWords, Holds, JobWords, array_words, job_levels, job_names as names_told, member_words, part_words, state_words, step_words}
 use Rattle.job_rules.specs.declared.fault.CheckFault.TheVariants.{Twice}
 use Rattle.job_rules.specs.declared.notes.Notes.{Notes}
 use Rattle.job_rules.specs.declared.notes.PortUse.{PortUse}
@@ -41,13 +38,13 @@ use Rattle.job_rules.specs.Answers.{answer_fault, answers_found}
 use Rattle.job_rules.specs.Bounds.{bounds_found}
 use Rattle.job_rules.specs.Checked.{UnbrokenIsSealed, classes_found, first_fault, nothing_noted, plan_of, rules_of}
 use Rattle.job_rules.specs.Declarations.{declarations_found, is_array, is_state}
-use Rattle.job_rules.specs.Faults.{Found, fault_if, name_fault, nothing}
+use Rattle.job_rules.specs.Faults.{fault_if, name_fault, nothing}
 use Rattle.job_rules.specs.Limits.{elements_written}
 use Rattle.job_rules.specs.Names.{Known, bytes_at, lookup}
 use Rattle.job_rules.specs.Planned.{planned}
 use Rattle.job_rules.specs.PlannedAnswers.{answer_planned}
-use Rattle.job_rules.specs.PlannedArrays.{array_planned, arrays_from, size_planned, state_planned, states_planned}
-use Rattle.job_rules.specs.PlannedMembers.{entries_from, entries_of, reductions_from, reductions_of}
+use Rattle.job_rules.specs.PlannedArrays.{array_planned, arrays_from, size_planned, states_planned}
+use Rattle.job_rules.specs.PlannedMembers.{entries_from, reductions_from}
 use Rattle.job_rules.specs.Numbers.{narrow32}
 use Rattle.job_rules.specs.Ports.{ports_found}
 use Rattle.job_rules.specs.Steps.{arrays_walked, job_walked}
@@ -55,7 +52,7 @@ use Rattle.job_rules.specs.Tables.{arrays_named, cells_written, counts_after, jo
 use Rattle.job_rules.proofs.Answering.{ArrayThere, answers_kept, answers_none}
 use Rattle.job_rules.proofs.Costing as c
 use Rattle.job_rules.proofs.Counting.{ArraysBounded, ArraysCounted, both, bounded, cells_of_all, counted}
-use Rattle.job_rules.proofs.Declared.{ArraysKept, MembersKept, StatesKept, declarations_kept}
+use Rattle.job_rules.proofs.Declared.{ArraysKept, StatesKept, declarations_kept}
 use Rattle.job_rules.proofs.Gathering.{EntriesAll, EntryGood, MemberLies, PlansThere, ReductionGood, ReductionsAll, entries_good, reductions_good}
 use Rattle.job_rules.proofs.Laying.{ArrayNamed, ArraysLaid, BodyFull, Lies, arrays_kept_whole, arrays_laid, between_is, counted_low, few_arrays, name_kept, shaped, states_apart, states_of_laid}
 use Rattle.job_rules.proofs.Places.{IsBelow, Sound, Tail, arrays_sound, none_sound, tail_here, tail_next, tail_whole}
@@ -64,8 +61,8 @@ use Rattle.job_rules.proofs.Singling.{FewMembers, Numbered, StatesNumbered, all_
 use Rattle.job_rules.proofs.Sooner.{faultless, sooner_none, unbroken}
 use Rattle.job_rules.proofs.Stating.{World, shallow}
 use Rattle.job_rules.proofs.Stepping.{BodyShallow, StepsShallow}
-use Rattle.job_rules.proofs.Tabled.{Lists, Room, Standing, Told, entry_numbers_from, ports_from, reduction_numbers_from, table_told}
-use Rattle.job_rules.proofs.Walking.{DirectArrays, HeldFrom, HeldPort, JobFacts, KnownFrom, ThereFrom, all_direct, all_there, arrays_facts, each_held, marks_in, ports_held}
+use Rattle.job_rules.proofs.Tabled.{Lists, Standing, Told, entry_numbers_from, ports_from, reduction_numbers_from, table_told}
+use Rattle.job_rules.proofs.Walking.{DirectArrays, HeldFrom, JobFacts, KnownFrom, ThereFrom, all_direct, all_there, arrays_facts, each_held, marks_in, ports_held}
 
 -- ---- what a tree carries
 

@@ -1,10 +1,10 @@
 -- Names that are declared once, and what holds of all entries and reductions.
 use Rattle.std.proofs.Common.{◌≡◌, ℕ, zero, suc, ◌+◌, ◌<◌, ◌≤◌, Bool, true, false, List, [], ◌∷◌, ◌++◌, length, map, refl, ap, sym, ◌∙◌, subst, arith, Option, None, Some}
-use Rattle.std.specs.Prelude.{◌&&◌, ◌||◌, ◌==◌, not, nat_le, nat_lt, is_some, if◌then◌else◌, slice_get}
+use Rattle.std.specs.Prelude.{◌&&◌, ◌||◌, ◌==◌, not, nat_le, if◌then◌else◌, slice_get}
 use Rattle.std.specs.List.{list_all, list_any}
 use Rattle.std.specs.Option.{option_map_or}
 use Rattle.std.specs.Str.{bytes_eq}
-use Rattle.std.proofs.lemmas.Bool.{and_parts, eq-eqb, eqb-true, leb-true, le-leb, lt-ltb}
+use Rattle.std.proofs.lemmas.Bool.{and_parts, eqb-true, leb-true, le-leb, lt-ltb}
 use Rattle.std.proofs.lemmas.Slice.Eq.{bytes_eq-Decides}
 use Rattle.chare_base.specs.declared.message.Port.{Port}
 use Rattle.chare_base.specs.declared.message.Port.TheVariants as ports
@@ -26,14 +26,14 @@ use Rattle.job_rules.specs.declared.names.Meaning.TheVariants as meanings
 use Rattle.job_rules.specs.declared.notes.PortUse.{PortUse}
 use Rattle.job_rules.specs.declared.tables.JobNames.{JobNames}
 use Rattle.job_rules.specs.Declarations.{is_array, is_port, is_state}
-use Rattle.job_rules.specs.Names.{Known, lookup}
+use Rattle.job_rules.specs.Names.{Known}
 use Rattle.job_rules.specs.PlannedMembers as p
 use Rattle.job_rules.specs.Numbers.{narrow16}
 use Rattle.job_rules.specs.Ports.{uses_of}
 use Rattle.job_rules.specs.Tables.{member_meaning}
 use Rattle.job_rules.proofs.Counting.{both}
 use Rattle.job_rules.proofs.Gathering.{EntriesAll, EntryGood, ReductionGood, ReductionsAll}
-use Rattle.job_rules.proofs.Porting.{FedFrom, TakenBy, all_marks, once, port_kept}
+use Rattle.job_rules.proofs.Porting.{all_marks, once, port_kept}
 use Rattle.job_rules.proofs.Stepping.{send_marks, take_marks}
 use Rattle.job_rules.proofs.Tabled.{IsPort, Lists}
 

@@ -1,19 +1,17 @@
 -- Statements that break no rule, and their plans.
-use Rattle.std.proofs.Common.{◌≡◌, ℕ, ℤ, zero, suc, ◌+◌, ◌<◌, ◌≤◌, Bool, true, false, List, [], ◌∷◌, ◌++◌, length, map, refl, ap, sym, ◌∙◌, subst, arith, Option, None, Some}
-use Rattle.std.specs.Prelude.{◌&&◌, ◌||◌, ◌==◌, not, min, nat_le, nat_lt, is_some, slice_get}
+use Rattle.std.proofs.Common.{◌≡◌, ℕ, ℤ, suc, ◌+◌, ◌<◌, ◌≤◌, Bool, true, false, List, [], ◌∷◌, ◌++◌, length, map, refl, ap, sym, ◌∙◌, subst, arith, Option, None, Some}
+use Rattle.std.specs.Prelude.{◌&&◌, ◌||◌, ◌==◌, not, nat_le, nat_lt, is_some, slice_get}
 use Rattle.std.specs.List.{list_all, list_any}
 use Rattle.std.proofs.lemmas.Bool.{and_parts, eq-eqb, eqb-true, leb-true, lt-ltb, or_left, or_right}
 use Rattle.std.proofs.lemmas.List.{length-append}
 use Rattle.std.proofs.lemmas.List.Folds.{list_any-append}
 use Rattle.chare_base.specs.declared.expression.Expr.{Expr}
-use Rattle.chare_base.specs.declared.message.EntryId.{EntryId}
 use Rattle.chare_base.specs.declared.message.Port.{Port}
 use Rattle.chare_base.specs.declared.message.Port.TheVariants as ports
-use Rattle.chare_base.specs.declared.message.ReductionId.{ReductionId}
 use Rattle.chare_base.specs.declared.plan.Entry.{Entry}
 use Rattle.chare_base.specs.declared.plan.Reduction.{Reduction}
 use Rattle.chare_base.specs.declared.plan.State.{State}
-use Rattle.chare_base.specs.declared.plan.Stmt.{Stmt, roll-Stmt, out-Stmt, out-roll-Stmt}
+use Rattle.chare_base.specs.declared.plan.Stmt.{Stmt, roll-Stmt, out-roll-Stmt}
 use Rattle.chare_base.specs.declared.plan.Stmt.TheVariants as stmts
 use Rattle.chare_base.specs.declared.plan.Stmt.TheOpen.{Stmt-F}
 use Rattle.chare_base.specs.declared.plan.Stmt.TheFolds.{fold-roll-Stmt, map-Stmt}
@@ -27,7 +25,6 @@ use Rattle.job_tree.specs.declared.token.Mark.TheVariants as marks
 use Rattle.job_tree.specs.declared.token.Span.{Span}
 use Rattle.job_tree.specs.declared.tree.Block.{Block, roll-Block}
 use Rattle.job_tree.specs.declared.tree.Expr.{Expr as ExprDecl}
-use Rattle.job_tree.specs.declared.tree.SignedNum.{SignedNum}
 use Rattle.job_tree.specs.declared.tree.StmtDecl.{StmtDecl, roll-StmtDecl}
 use Rattle.job_tree.specs.declared.tree.StmtDecl.TheOpen.{Block-F, StmtDecl-F}
 use Rattle.job_tree.specs.declared.tree.StmtDecl.TheFolds as tree
@@ -43,7 +40,6 @@ use Rattle.job_rules.specs.declared.notes.PortUse.{PortUse}
 use Rattle.job_rules.specs.declared.notes.StateUse.{StateUse}
 use Rattle.job_rules.specs.declared.tables.JobNames.{JobNames}
 use Rattle.job_rules.specs.declared.walk.PartAt.{PartAt}
-use Rattle.job_rules.specs.declared.walk.Site.TheVariants as sites
 use Rattle.job_rules.specs.Expressions.{is_local, misindexed, state_use}
 use Rattle.job_rules.specs.Faults.{Found, fault_if, name_fault, nothing}
 use Rattle.job_rules.specs.Names.{Known, bytes_at, lookup}
@@ -56,7 +52,7 @@ use Rattle.job_rules.specs.PlannedStatements as p
 use Rattle.job_rules.specs.Statements as w
 use Rattle.job_rules.specs.Tables.{array_number, meant_in, table_at}
 use Rattle.job_rules.proofs.Counting.{both}
-use Rattle.job_rules.proofs.Meant.{Apart, StateIs, StateMeant, equal, indexed_there, noted_good, one_cell_of, plain_there, plain_where, same_state, sized_where, value_in_part}
+use Rattle.job_rules.proofs.Meant.{Apart, StateMeant, equal, indexed_there, one_cell_of, plain_there, plain_where, same_state, sized_where, value_in_part}
 use Rattle.job_rules.proofs.Noting.{Clean, Goes, Good, clean_and, clean_as, clean_none, goes_on, good_and, good_none, more_used, noted_goes, used_in, uses_state, writes_state}
 use Rattle.job_rules.proofs.Places.{Sound}
 use Rattle.job_rules.proofs.Sending.{SentBy, all_parts, count_at, count_joined, count_one, sent_and, sent_none, sent_one, sent_within}

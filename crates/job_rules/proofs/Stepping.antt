@@ -1,5 +1,5 @@
 -- Steps that break no rule, and their plans.
-use Rattle.std.proofs.Common.{◌≡◌, ℕ, zero, suc, ◌+◌, ◌<◌, ◌≤◌, Bool, true, false, List, [], ◌∷◌, ◌++◌, length, map, refl, ap, sym, ◌∙◌, subst, arith, Option, None, Some}
+use Rattle.std.proofs.Common.{◌≡◌, ℕ, suc, ◌+◌, ◌≤◌, Bool, true, false, List, [], ◌∷◌, ◌++◌, length, map, refl, ap, sym, ◌∙◌, subst, arith, Option, None, Some}
 use Rattle.std.specs.Prelude.{◌&&◌, ◌||◌, ◌==◌, not, is_none, is_some, if◌then◌else◌, replicate, slice_get}
 use Rattle.std.specs.List.{AllByRecursion, list_all, list_any}
 use Rattle.std.specs.Option.{option_map_or}
@@ -17,7 +17,7 @@ use Rattle.chare_base.specs.declared.plan.State.{State}
 use Rattle.chare_base.specs.declared.plan.Step.{Step}
 use Rattle.chare_base.specs.declared.plan.Stmt.{Stmt}
 use Rattle.chare_base.specs.Overlap.{parts_apart, state_range}
-use Rattle.chare_base.specs.Ports.{all_quiet, block_sends, counted, is_quiet, part_sends_directly, parts_send, parts_take, step_sends_directly, takes}
+use Rattle.chare_base.specs.Ports.{block_sends, counted, part_sends_directly, parts_send, parts_take, step_sends_directly, takes}
 use Rattle.chare_base.specs.Ranges.{all_in, expr_in_range, need_in_range, part_in_range, received_by, reduced_in, sends_in_range, start_in_range, step_in_range, stmt_in_range, values_of}
 use Rattle.chare_base.specs.Uses.{uses, writes}
 use Rattle.chare_base.specs.Costs.{capped}
@@ -38,12 +38,9 @@ use Rattle.job_rules.specs.declared.notes.Notes.{Notes}
 use Rattle.job_rules.specs.declared.notes.PortUse.{PortUse}
 use Rattle.job_rules.specs.declared.notes.StateUse.{StateUse}
 use Rattle.job_rules.specs.declared.tables.JobNames.{JobNames}
-use Rattle.job_rules.specs.declared.walk.PartAt.{PartAt}
-use Rattle.job_rules.specs.declared.walk.Site.TheVariants as sites
-use Rattle.job_rules.specs.Expressions.{is_local, value_walked}
 use Rattle.job_rules.specs.Faults.{Found, fault_if, name_fault, nothing}
 use Rattle.job_rules.specs.Names.{Known, bytes_at, local_named, lookup, names_listed}
-use Rattle.job_rules.specs.Notes.{Walk, noted, received_noted}
+use Rattle.job_rules.specs.Notes.{noted}
 use Rattle.job_rules.specs.Overlap.{overlap_found, use_fault}
 use Rattle.job_rules.specs.PlannedArrays.{state_planned, states_planned}
 use Rattle.job_rules.specs.PlannedExpressions.{expr_planned}

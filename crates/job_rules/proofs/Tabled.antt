@@ -1,10 +1,8 @@
 -- What the names of an array stand for in the plan.
-use Rattle.std.proofs.Common.{◌≡◌, ℕ, zero, suc, ◌+◌, ◌*◌, ◌<◌, ◌≤◌, Bool, true, false, List, [], ◌∷◌, ◌++◌, length, refl, ap, sym, ◌∙◌, subst, arith, Option, None, Some}
-use Rattle.std.specs.Prelude.{slice_get, is_none, min}
-use Rattle.std.proofs.lemmas.List.{append_assoc}
+use Rattle.std.proofs.Common.{◌≡◌, ℕ, suc, ◌+◌, ◌≤◌, Bool, List, [], ◌∷◌, ◌++◌, length, refl, sym, subst, arith, Option, Some}
+use Rattle.std.specs.Prelude.{slice_get, is_none}
 use Rattle.chare_base.specs.declared.message.Port.{Port}
 use Rattle.chare_base.specs.declared.message.Port.TheVariants as ports
-use Rattle.chare_base.specs.declared.plan.Array.{Array}
 use Rattle.chare_base.specs.declared.plan.Entry.{Entry}
 use Rattle.chare_base.specs.declared.plan.Reduction.{Reduction}
 use Rattle.chare_base.specs.declared.plan.State.{State}
@@ -17,13 +15,12 @@ use Rattle.job_tree.specs.declared.tree.StateDecl.{StateDecl}
 use Rattle.job_rules.specs.declared.names.Meaning.{Meaning}
 use Rattle.job_rules.specs.declared.names.Meaning.TheVariants as meanings
 use Rattle.job_rules.specs.declared.tables.Counts.{Counts}
-use Rattle.job_rules.specs.declared.tables.JobNames.{JobNames}
-use Rattle.job_rules.specs.Names.{Known, bytes_at, declare, lookup}
-use Rattle.job_rules.specs.PlannedArrays.{array_planned, arrays_from, size_planned, state_planned, states_planned}
-use Rattle.job_rules.specs.PlannedMembers.{entries_from, entries_of, entry_of, entry_planned, reduction_of, reduction_planned, reductions_from, reductions_of}
+use Rattle.job_rules.specs.Names.{Known, bytes_at, declare}
+use Rattle.job_rules.specs.PlannedArrays.{state_planned, states_planned}
+use Rattle.job_rules.specs.PlannedMembers.{entries_of, entry_planned, reduction_planned, reductions_of}
 use Rattle.job_rules.specs.Numbers.{narrow8, narrow16, narrow32, number16}
-use Rattle.job_rules.specs.Tables.{array_number, cells_written, counts_after, counts_with, no_counts, port_named, ports_named, states_named, table_at, table_of, table_or_none, tables_from, values_written}
-use Rattle.job_rules.proofs.Places.{Sound, Tail, declare_sound, none_sound, tail_here, tail_next, tail_whole}
+use Rattle.job_rules.specs.Tables.{array_number, cells_written, counts_after, counts_with, ports_named, states_named, table_of, values_written}
+use Rattle.job_rules.proofs.Places.{Sound, Tail, declare_sound, none_sound, tail_here, tail_next}
 
 -- ---- all ports of a job, in text order
 

@@ -1,18 +1,14 @@
 -- What the walk over all arrays notes, and what is known of all ports.
-use Rattle.std.proofs.Common.{◌≡◌, ℕ, zero, suc, ◌+◌, ◌*◌, ◌<◌, ◌≤◌, Bool, true, false, List, [], ◌∷◌, ◌++◌, length, map, refl, ap, sym, ◌∙◌, subst, arith, Option, None, Some}
-use Rattle.std.specs.Prelude.{◌&&◌, ◌==◌, not, is_none, is_some, if◌then◌else◌, slice_get}
+use Rattle.std.proofs.Common.{◌≡◌, ℕ, zero, suc, ◌+◌, ◌*◌, ◌≤◌, Bool, true, false, List, [], ◌∷◌, ◌++◌, length, map, refl, ap, ◌∙◌, subst, arith}
+use Rattle.std.specs.Prelude.{◌==◌, not, is_none, is_some, if◌then◌else◌, slice_get}
 use Rattle.std.specs.List.{list_all}
 use Rattle.std.proofs.lemmas.Bool.{and_parts, eq-eqb}
 use Rattle.std.proofs.lemmas.List.{append_assoc, map-append}
 use Rattle.std.proofs.lemmas.List.Elements.{filter-append}
 use Rattle.chare_base.specs.declared.message.Port.{Port}
 use Rattle.chare_base.specs.declared.plan.Array.{Array}
-use Rattle.chare_base.specs.declared.plan.Entry.{Entry}
-use Rattle.chare_base.specs.declared.plan.Reduction.{Reduction}
-use Rattle.chare_base.specs.declared.plan.State.{State}
-use Rattle.chare_base.specs.declared.plan.Step.{Step}
-use Rattle.chare_base.specs.Overlap.{array_apart, parts_apart}
-use Rattle.chare_base.specs.Ports.{array_sends_directly, step_sends_directly}
+use Rattle.chare_base.specs.Overlap.{array_apart}
+use Rattle.chare_base.specs.Ports.{array_sends_directly}
 use Rattle.chare_base.specs.Ranges.{array_in_range, arrays_in_range, start_in_range, step_in_range}
 use Rattle.job_tree.specs.declared.tree.ArrayDecl.{ArrayDecl}
 use Rattle.job_tree.specs.declared.tree.Job.{Job}
@@ -26,12 +22,12 @@ use Rattle.job_rules.specs.declared.tables.JobNames.{JobNames}
 use Rattle.job_rules.specs.Faults.{Found, nothing, sooner}
 use Rattle.job_rules.specs.Names.{Known}
 use Rattle.job_rules.specs.PlannedArrays.{array_planned, arrays_from, size_planned, states_planned}
-use Rattle.job_rules.specs.PlannedMembers.{entries_from, entries_of, reductions_from, reductions_of}
+use Rattle.job_rules.specs.PlannedMembers.{entries_from, reductions_from}
 use Rattle.job_rules.specs.Numbers.{narrow32}
 use Rattle.job_rules.specs.PlannedSteps.{step_planned}
 use Rattle.job_rules.specs.Ports as f
 use Rattle.job_rules.specs.Ports.{declared_at, nested_fault, port_fault, ports_found, uses_of}
-use Rattle.job_rules.specs.Steps.{arrays_walked, array_walked, array_with}
+use Rattle.job_rules.specs.Steps.{arrays_walked, array_with}
 use Rattle.job_rules.specs.Tables.{counts_after, counts_with, no_counts, table_at}
 use Rattle.job_rules.proofs.Counting.{both}
 use Rattle.job_rules.proofs.Meant.{Apart}
@@ -42,7 +38,7 @@ use Rattle.job_rules.proofs.Singling.{FewMembers}
 use Rattle.job_rules.proofs.Sooner.{faultless, sooner_none, unbroken, is_none-none}
 use Rattle.job_rules.proofs.Stating.{World}
 use Rattle.job_rules.proofs.Stepping.{StepsShallow, array_facts, send_marks, take_marks}
-use Rattle.job_rules.proofs.Tabled.{EachMember, IsPort, Lists, MemberThere, Room, Standing, Told, entry_numbers, entry_numbers_from, less_room, members_there, not_capped, port_list, port_of, ports_from, reduction_numbers, reduction_numbers_from, room_after, room_next}
+use Rattle.job_rules.proofs.Tabled.{EachMember, IsPort, Lists, MemberThere, Room, Standing, Told, entry_numbers_from, less_room, members_there, not_capped, port_list, port_of, ports_from, reduction_numbers_from, room_after, room_next}
 
 -- ---- arrays
 

@@ -1,5 +1,5 @@
 -- How many statements a step runs at most, where each loop's turns are counted and each test counts too.
-use Rattle.std.specs.Prelude.{ℕ, ◌+◌, ◌*◌, ℤ, ◌-ℤ◌, List, [], ◌∷◌, Option, Some, None}
+use Rattle.std.specs.Prelude.{ℕ, ◌+◌, ◌*◌, ◌-ℤ◌, List, [], ◌∷◌, Option, Some, None}
 use Rattle.chare_base.specs.Costs.{capped, numbers_below, sum_from}
 use Rattle.job_tree.specs.declared.tree.Block.{Block}
 use Rattle.job_tree.specs.declared.tree.PartDecl.{PartDecl}

@@ -1,5 +1,5 @@
 -- The parts of a step run in any order. So no part uses a state that another one writes.
-use Rattle.std.specs.Prelude.{◌≡◌, ℕ, ◌<◌, ◌≤◌, Bool, not, ◌&&◌, ◌||◌, ◌==◌, nat_lt, nat_le, if◌then◌else◌, List, [], ◌∷◌, length, slice_index_or, slice_set}
+use Rattle.std.specs.Prelude.{Bool, ◌&&◌, ◌==◌, nat_lt, nat_le, List}
 use Rattle.std.specs.List.{list_any}
 use Rattle.job_rules.specs.declared.fault.CheckFault.TheVariants.{Overlap}
 use Rattle.job_rules.specs.declared.notes.StateUse.{StateUse}

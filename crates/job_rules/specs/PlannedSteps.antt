@@ -3,7 +3,6 @@ use Rattle.std.specs.Prelude.{ℕ, List, [], ◌∷◌, map}
 use Rattle.chare_base.specs.declared.message.Need.TheVariants as needs
 use Rattle.chare_base.specs.declared.plan.Part.{Part}
 use Rattle.chare_base.specs.declared.plan.Step.{Step}
-use Rattle.job_tree.specs.declared.token.Span.{Span}
 use Rattle.job_tree.specs.declared.tree.Block.{Block}
 use Rattle.job_tree.specs.declared.tree.PartDecl.{PartDecl}
 use Rattle.job_tree.specs.declared.tree.StepBody.{StepBody}
