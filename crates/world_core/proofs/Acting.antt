@@ -68,7 +68,7 @@ goes_back : (t : Standing) (k : ℕ) (since : Since) (body : Option Body) → If
 goes_back t k since body rest = record {
   bounded = rests_objects k body rest;
   packed = no_stay t (fresh_of body) (rests_fresh k body rest);
-  since = ordered_since since (fresh_of body) (rests_fresh k body rest);
+  orders = ordered_since since (fresh_of body) (rests_fresh k body rest);
 }
 
 bounded_on : (top : ℕ) (back : Option ℕ) (old new : List Progress) → ((P : Progress → Type 0) → AllByRecursion P old → AllByRecursion P new) → IsBounded top back old → IsBounded top back new
@@ -81,7 +81,7 @@ mail_beside : (t : Standing) (back : Option ℕ) (since : Since) (old new : Opti
 mail_beside t back since old new stays h = record {
   bounded = bounded back h.bounded;
   packed = subst (λ fresh. IfSome fresh (λ (piece : Piece). StaysAt piece.iteration t)) (sym stays.fresh) h.packed;
-  since = subst (λ fresh. IsSince since fresh) (sym stays.fresh) h.since;
+  orders = subst (λ fresh. IsSince since fresh) (sym stays.fresh) h.orders;
 }
   where
     bounded : (back : Option ℕ) → IsBounded t.top back (objects_of old) → IsBounded t.top back (objects_of new)
@@ -116,12 +116,12 @@ module _ (law : Known) (s : Setting) (cut : CutState) (x : SlotState) where
       record {
         bounded = bounded_on t.top x.back (objects_of x.node.body) _ (λ P all. commit_objects s.plan s.script s.place x.node P stamp k live all) h.bounded;
         packed = no_stay t _ none;
-        since = ordered_since x.since _ none;
+        orders = ordered_since x.since _ none;
       }
   heard_beside (letters.Resume stamp) keeps is follows h = record {
     bounded = bounded_on t.top x.back (objects_of x.node.body) _ (λ P all. resume_objects s.plan s.script s.place x.node P stamp all) h.bounded;
     packed = resume_fresh s.plan s.script s.place x.node (λ fresh. IfSome fresh (λ (piece : Piece). StaysAt piece.iteration t)) stamp tt h.packed;
-    since = resumed_since x.since _ (fresh_of x.node.body) (λ none. resume_fresh s.plan s.script s.place x.node (λ fresh. fresh ≡ None) stamp refl none) h.since;
+    orders = resumed_since x.since _ (fresh_of x.node.body) (λ none. resume_fresh s.plan s.script s.place x.node (λ fresh. fresh ≡ None) stamp refl none) h.orders;
   }
 
   module _ (end : LastOrder) (holds : IsCut cut) (stands : Stands s cut.round (stand cut x.node.slot) x) where
@@ -146,7 +146,7 @@ module _ (law : Known) (s : Setting) (cut : CutState) (x : SlotState) where
             bounded = subst (λ b. IsBounded t.top b (objects_of (outcome_of (node_ran s.plan s.script s.place t.top e.0 x.node)).node.body)) (sym is)
                 (ran_begun s.plan s.script s.place t.top e.0 x.node (subst (λ b. IsBounded t.top b (objects_of x.node.body)) is old.bounded));
             packed = subst (λ fresh. IfSome fresh (λ (piece : Piece). StaysAt piece.iteration t)) (sym fresh) old.packed;
-            since = subst (λ fresh. IsSince x.since fresh) (sym fresh) old.since;
+            orders = subst (λ fresh. IsSince x.since fresh) (sym fresh) old.orders;
           })
           chain (same_cut cut x.node.slot holds)
 

@@ -83,7 +83,7 @@ names_long replica (suc j) = longer (names_to replica j) ∙ ap suc (names_long 
 
 named_to : (replica n i : ℕ) (slot : SlotId) → slice_get (names_to replica n) i ≡ Some slot → (slot.replica ≡ replica) × (slot.node ≡ i) × (i < n)
 named_to replica zero i slot h = absurd (let q : None ≡ Some slot = h in cc)
-named_to replica (suc j) i slot h = by (got_front (names_to replica j) (record { replica = replica; node = j } ∷ []) i slot h)
+named_to replica (suc j) i slot h = by (named_to replica j i slot) (got_front (names_to replica j) (record { replica = replica; node = j } ∷ []) i slot h)
   where
     last : (m : ℕ) → i ≡ length (names_to replica j) + m → slice_get (record { replica = replica; node = j } ∷ []) m ≡ Some slot → (slot.replica ≡ replica) × (slot.node ≡ i) × (i < suc j)
     last zero at h =
@@ -92,10 +92,18 @@ named_to replica (suc j) i slot h = by (got_front (names_to replica j) (record {
         (ap (λ (s : SlotId). s.replica) (sym same), ap (λ (s : SlotId). s.node) (sym same) ∙ sym here, omega (arith, here))
     last (suc m) at h = absurd (let q : None ≡ Some slot = h in cc)
 
-    by : (slice_get (names_to replica j) i ≡ Some slot) ⊎ ((m : ℕ) × (i ≡ length (names_to replica j) + m) × (slice_get (record { replica = replica; node = j } ∷ []) m ≡ Some slot)) →
+    by : (slice_get (names_to replica j) i ≡ Some slot → (slot.replica ≡ replica) × (slot.node ≡ i) × (i < j)) →
+        (slice_get (names_to replica j) i ≡ Some slot) ⊎ ((m : ℕ) × (i ≡ length (names_to replica j) + m) × (slice_get (record { replica = replica; node = j } ∷ []) m ≡ Some slot)) →
         (slot.replica ≡ replica) × (slot.node ≡ i) × (i < suc j)
-    by (inl before) = let r = named_to replica j i slot before in let few = r.2 in (r.0, r.1, omega (arith, few))
-    by (inr h) = last h.0 h.1 h.2
+    by rest (inl before) = let r = rest before in let few = r.2 in (r.0, r.1, omega (arith, few))
+    by rest (inr h) = last h.0 h.1 h.2
+
+-- replica 0's slots come first, then replica 1's
+first_number : (nodes node i : ℕ) → node ≡ i → 0 * nodes + node ≡ i
+first_number nodes node i h = omega (arith, h)
+
+second_number : (nodes node i : ℕ) → nodes + node ≡ i → 1 * nodes + node ≡ i
+second_number nodes node i h = omega (arith, h)
 
 name_is : (nodes i : ℕ) (slot : SlotId) → slice_get (names nodes) i ≡ Some slot → IsNamed nodes i slot
 name_is nodes i slot h = by (got_front (names_to 0 nodes) (names_to 1 nodes) i slot h)
@@ -106,7 +114,7 @@ name_is nodes i slot h = by (got_front (names_to 0 nodes) (names_to 1 nodes) i s
         let q : slot.replica ≡ 0 = r.0 in
         let n : slot.node ≡ i = r.1 in
         let few : i < nodes = r.2 in
-        record { number = ap (λ m. m * nodes + slot.node) q ∙ n; replica = omega (arith, q); node = omega (arith, n, few) }
+        record { number = ap (λ m. m * nodes + slot.node) q ∙ first_number nodes slot.node i n; replica = omega (arith, q); node = omega (arith, n, few) }
     by (inr h) =
         let r = named_to 1 nodes h.0 slot h.2 in
         let q : slot.replica ≡ 1 = r.0 in
@@ -114,7 +122,7 @@ name_is nodes i slot h = by (got_front (names_to 0 nodes) (names_to 1 nodes) i s
         let few : h.0 < nodes = r.2 in
         let at : i ≡ length (names_to 0 nodes) + h.0 = h.1 in
         let long = names_long 0 nodes in
-        record { number = ap (λ m. m * nodes + slot.node) q ∙ omega (arith, n, at, long); replica = omega (arith, q); node = omega (arith, n, few) }
+        record { number = ap (λ m. m * nodes + slot.node) q ∙ second_number nodes slot.node i (omega (arith, n, at, long)); replica = omega (arith, q); node = omega (arith, n, few) }
 
 module _ (nodes : ℕ) (all : List SlotState) (are : map slot_name all ≡ names nodes) where
   pub place_is : (i : ℕ) (x : SlotState) → slice_get all i ≡ Some x → IsNamed nodes i x.node.slot
@@ -158,7 +166,7 @@ module _ (s : Setting) (cut : CutState) (ends : ℕ → LastOrder) where
   put_stands letter x is old = record {
     keeps = old.keeps;
     letters = all_behind (Holds s.plan s.script s.place (boxes.Slot x.node.slot)) x.box letter old.letters is;
-    beside = record { bounded = old.beside.bounded; packed = old.beside.packed; since = old.beside.since };
+    beside = record { bounded = old.beside.bounded; packed = old.beside.packed; orders = old.beside.orders };
     seats = old.seats;
     current = hears_next s cut x x.box letter;
   }

@@ -90,7 +90,7 @@ module _ (slot : Slot) (back : Option ℕ) (since : Since) (body : Option Body) 
   sees_beside round floor taking under h = record {
     bounded = h.bounded;
     packed = stay (slot_saw round slot) (λ k on. record { held = on.held; top = on.top; seen = still_seen k round floor slot.seen slot.cap under.seen under.reported under.same on.seen }) h;
-    since = h.since;
+    orders = h.orders;
   }
 
   -- ---- it reports, where it is free
@@ -99,7 +99,7 @@ module _ (slot : Slot) (back : Option ℕ) (since : Since) (body : Option Body) 
   reports_beside free h = record {
     bounded = h.bounded;
     packed = stay (slot_reported slot) (λ k on. absurd (let q : true ≡ false = sym free ∙ on.held in cc)) h;
-    since = h.since;
+    orders = h.orders;
   }
 
   -- ---- it is released, where it was resumed
@@ -110,8 +110,8 @@ module _ (slot : Slot) (back : Option ℕ) (since : Since) (body : Option Body) 
   pub releases_beside : since ≡ Resumed → Here slot → Here (slot_released slot)
   releases_beside is h = record {
     bounded = h.bounded;
-    packed = subst (λ fresh. IfSome fresh (λ (piece : Piece). StaysAt piece.iteration (standing_of (slot_released slot)))) (sym (none_fresh is h.since)) tt;
-    since = h.since;
+    packed = subst (λ fresh. IfSome fresh (λ (piece : Piece). StaysAt piece.iteration (standing_of (slot_released slot)))) (sym (none_fresh is h.orders)) tt;
+    orders = h.orders;
   }
 
   -- ---- it begins an iteration
@@ -150,7 +150,7 @@ module _ (slot : Slot) (back : Option ℕ) (since : Since) (body : Option Body) 
         bounded = subst (λ b. IsBounded (max slot.top (suc j)) b (objects_of body)) (sym none)
             (raised slot.top (max slot.top (suc j)) (omega arith) (subst (λ b. IsBounded slot.top b (objects_of body)) none h.bounded));
         packed = stay (went slot j leaves.Go) (λ k on. let low = below_there j k on is in let top = on.top in record { held = on.held; top = omega (arith, low, top); seen = on.seen }) h;
-        since = h.since;
+        orders = h.orders;
       }
 
 -- ---- it goes back, where all its elements are at the base
@@ -203,7 +203,7 @@ module _ (p : Plan) (script : List Fault) (place : List ℕ) (nodes : ℕ) (cove
   rewinds_beside slot base since h = record {
     bounded = all_to (λ o. is_at base o ≡ true) (Begun base) (objects_of n.body) (begun_at base) h.bounded;
     packed = both (fresh_of n.body) h.packed (of_base base n.body keeps.body h.bounded);
-    since = h.since;
+    orders = h.orders;
   }
     where
       both : (fresh : Option Piece) → IfSome fresh (λ (piece : Piece). StaysAt piece.iteration (standing_of slot)) → IfSome fresh (λ (piece : Piece). base ≡ piece.iteration) →
@@ -218,7 +218,7 @@ pub packs_beside : (p : Plan) (script : List Fault) (n : NodeState) (slot : Slot
 packs_beside p script n slot k back since due h = record {
   bounded = bounded back h.bounded;
   packed = packed_fresh (λ (piece : Piece). StaysAt piece.iteration (standing_of (slot_packed slot))) p script k n stays;
-  since = tt;
+  orders = tt;
 }
   where
     bounded : (back : Option ℕ) → IsBounded slot.top back (objects_of n.body) → IsBounded slot.top back (objects_of (node_packed p script k n).node.body)

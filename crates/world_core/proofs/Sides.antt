@@ -61,7 +61,7 @@ pub record StaysAt (k : ℕ) (t : Standing) : Type 0 where
 pub record Beside (t : Standing) (back : Option ℕ) (since : Since) (body : Option Body) : Type 0 where
   pub bounded : IsBounded t.top back (objects_of body)
   pub packed : IfSome (fresh_of body) (λ (piece : Piece). StaysAt piece.iteration t)
-  pub since : IsSince since (fresh_of body)
+  pub orders : IsSince since (fresh_of body)
 
 -- a slot beside it, but for the orders on their way
 pub record Stands (s : Setting) (round : Round) (t : Standing) (x : SlotState) : Type 0 where
@@ -92,7 +92,7 @@ module _ (s : Setting) (cut : CutState) (c : ConductorState) (x : SlotState) whe
     beside = record {
       bounded = h.bounded;
       packed = if_to (λ (piece : Piece). Stays piece.iteration here) (λ (piece : Piece). StaysAt piece.iteration (standing_of here)) (fresh_of x.node.body) (λ piece h. stays_at piece.iteration here h) h.packed;
-      since = h.since;
+      orders = h.since;
     };
     seats = h.seats;
     current = h.current;
@@ -105,7 +105,7 @@ module _ (s : Setting) (cut : CutState) (c : ConductorState) (x : SlotState) whe
     chain = chain;
     bounded = h.beside.bounded;
     packed = if_to (λ (piece : Piece). StaysAt piece.iteration (standing_of here)) (λ (piece : Piece). Stays piece.iteration here) (fresh_of x.node.body) (λ piece h. stays_of piece.iteration here h) h.beside.packed;
-    since = h.beside.since;
+    since = h.beside.orders;
     seats = h.seats;
     current = h.current;
   }
