@@ -1,10 +1,9 @@
 -- What an event of a slot makes of it.
-use Rattle.std.proofs.Common.{◌≡◌, ℕ, suc, ◌≤◌, ◌<◌, Bool, true, false, cond, List, [], ◌∷◌, refl, ap, sym, ◌∙◌, arith, subst, Option, Some, None}
-use Rattle.std.specs.Prelude.{◌==◌, IfSome}
+use Rattle.std.proofs.Common.{◌≡◌, ℕ, ◌≤◌, ◌<◌, true, List, [], ◌∷◌, refl, sym, arith, subst, Option, Some, None}
+use Rattle.std.specs.Prelude.{IfSome}
 use Rattle.std.specs.List.{AllByRecursion}
 use Rattle.chare_base.specs.declared.plan.ElementId.{ElementId}
 use Rattle.chare_base.specs.declared.plan.Plan.{Plan}
-use Rattle.chare_base.specs.declared.slots.SlotId.{SlotId}
 use Rattle.chare_base.specs.Placing.{Covers}
 use Rattle.iteration_agree.specs.declared.round.Standing.{Standing}
 use Rattle.iteration_agree.specs.declared.slot.Slot.{Slot}
@@ -21,8 +20,8 @@ use Rattle.letter_post.specs.Orders.{Chain, FollowsOrder, next_order}
 use Rattle.letter_post.specs.Truth.{Holds}
 use Rattle.object_steps.specs.Objects.{Progress}
 use Rattle.pup_state.specs.declared.piece.Piece.{Piece}
-use Rattle.node_core.specs.Keeps.{AllAt, Capped, CappedBody, Keeps, KeepsOn, RestsAt}
-use Rattle.node_core.specs.Nodes.{Body, NodeState, Outcome, node_heard, node_packed, node_ran, objects_of, outcome_of, silent}
+use Rattle.node_core.specs.Keeps.{Capped, CappedBody, Keeps, KeepsOn, RestsAt}
+use Rattle.node_core.specs.Nodes.{Body, NodeState, node_heard, node_packed, node_ran, objects_of, outcome_of, silent}
 use Rattle.node_core.specs.Turns.{is_at}
 use Rattle.world_core.specs.declared.doing.Doing.{Doing}
 use Rattle.world_core.specs.declared.doing.Doing.TheVariants as doings
@@ -31,9 +30,8 @@ use Rattle.world_core.specs.declared.doing.Since.TheVariants.{Nothing, Ordered, 
 use Rattle.world_core.specs.declared.doing.SlotMove.{SlotMove}
 use Rattle.world_core.specs.declared.doing.SlotMove.TheVariants as slot_moves
 use Rattle.world_core.specs.Sound.{AllTrue, IsBounded, IsSince, fresh_of}
-use Rattle.world_core.specs.Worlds.{Acted, Setting, SlotState, acted, back_after, does, ordered_after, resumed_after, since_after, slot_heard, slot_move, slot_moved_by, slot_ran_by, stand}
+use Rattle.world_core.specs.Worlds.{Setting, SlotState, acted, back_after, does, ordered_after, resumed_after, since_after, slot_heard, slot_move, slot_moved_by, slot_ran_by, stand}
 use Rattle.world_core.proofs.Due.{IsDue, PackDue, due_is, may_pack, may_release, may_report, may_rewind, resumed_is}
-use Rattle.world_core.proofs.Lists.{all_to}
 use Rattle.world_core.proofs.Shifting.{begins_beside, packs_beside, place_under, releases_beside, reports_beside, rewinds_beside, sees_beside, shifts}
 use Rattle.world_core.proofs.Sides.{Beside, Known, Shift, Stands, StaysAt, Well, acted_well, if_to, same_cut, still_well}
 use Rattle.world_core.proofs.Staying.{Begun, NodeStays, at_steady, begun_steady, commit_objects, mail_stays, ran_begun, ran_fresh, rests_fresh, rests_objects, resume_fresh, resume_objects}

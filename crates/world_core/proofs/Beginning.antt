@@ -1,5 +1,5 @@
 -- The opening is sound.
-use Rattle.std.proofs.Common.{◌≡◌, ℕ, zero, suc, ◌+◌, ◌*◌, ◌/◌, ◌%◌, ◌≤◌, Bool, true, false, cond, List, [], ◌∷◌, ◌++◌, map, refl, ap, sym, ◌∙◌, arith, subst, Option, Some, None}
+use Rattle.std.proofs.Common.{◌≡◌, ℕ, zero, suc, ◌+◌, ◌*◌, ◌/◌, ◌%◌, ◌≤◌, cond, List, [], ◌∷◌, ◌++◌, map, refl, ap, sym, ◌∙◌, arith, subst}
 use Rattle.std.specs.Prelude.{◌==◌, ◌&&◌, IfSome}
 use Rattle.std.specs.List.{AllByRecursion}
 use Rattle.chare_base.specs.declared.options.Options.{Options}
@@ -9,19 +9,16 @@ use Rattle.chare_base.specs.declared.slots.SlotId.{SlotId}
 use Rattle.fault_script.specs.declared.fault.Fault.{Fault}
 use Rattle.fault_script.specs.declared.fault.Fault.TheVariants as faults
 use Rattle.fault_script.specs.Lines.{set_of}
-use Rattle.iteration_agree.specs.Cuts.{CutState, opening_cut, slot_of}
+use Rattle.iteration_agree.specs.Cuts.{opening_cut, slot_of}
 use Rattle.letter_post.specs.declared.order.LastOrder.{LastOrder}
-use Rattle.object_steps.specs.Objects.{Progress}
 use Rattle.pup_state.specs.declared.piece.Piece.{Piece}
-use Rattle.run_ledger.specs.Ledgers.{lineage_set, opening_ledger}
 use Rattle.run_ledger.specs.Lines.{fresh_line, is_flip_of, shapes}
 use Rattle.node_core.specs.Nodes.{NodeState, objects_of}
 use Rattle.node_core.specs.Starts.{flips_replica, opening_stamp, replica_flips, start_state}
 use Rattle.conductor_core.specs.Conductors.{ConductorState, start_conductor}
 use Rattle.conductor_core.specs.Openings.{all_lines, is_any}
 use Rattle.world_core.specs.declared.event.Event.{Event}
-use Rattle.world_core.specs.declared.doing.Since.TheVariants.{Nothing}
-use Rattle.world_core.specs.Sound.{EveryEventKeeps, EveryWorldIsSound, IsFor, IsPlaced, SlotSound, Sound, StartIsSound, Stays, fresh_of, last_sent, names, names_to, slot_name}
+use Rattle.world_core.specs.Sound.{begun_of, EveryEventKeeps, EveryWorldIsSound, IsPlaced, SlotSound, Sound, StartIsSound, Stays, last_sent, names, names_to, slot_name}
 use Rattle.world_core.specs.Worlds.{Setting, SlotState, WorldState, happens, opening_slot_at, opening_slots, opening_world, reached}
 use Rattle.world_core.proofs.Lists.{all_behind, all_joined, all_to}
 use Rattle.world_core.proofs.Sides.{Known}
@@ -79,7 +76,7 @@ module _ (law : Known) (s : Setting) (o : Options) (placed : IsPlaced s) where
         keeps = law.starts s.plan s.script s.place slot live placed.count;
         letters = tt;
         chain = start_last s.plan s.script s.place slot live ∙ first_order s.script o s.plan.iterations r j h ∙ ap (λ (a : SlotId). last_sent first a.replica) (sym name);
-        bounded = all_to (Begun 0) (Begun (slot_of (opening_cut s.nodes) n.slot).top) (objects_of n.body) (λ q few. let none : Rattle.world_core.specs.Sound.begun_of q ≤ 0 = few in omega (arith, none)) (start_begun s.plan s.script s.place slot live);
+        bounded = all_to (Begun 0) (Begun (slot_of (opening_cut s.nodes) n.slot).top) (objects_of n.body) (λ q few. let none : begun_of q ≤ 0 = few in omega (arith, none)) (start_begun s.plan s.script s.place slot live);
         packed = subst (λ fresh. IfSome fresh (λ (piece : Piece). Stays piece.iteration (slot_of (opening_cut s.nodes) n.slot))) (sym (start_fresh s.plan s.script s.place slot live)) tt;
         since = tt;
         seats = refl;

@@ -10,7 +10,7 @@ use Rattle.iteration_agree.specs.declared.round.Standing.{Standing}
 use Rattle.iteration_agree.specs.declared.slot.Slot.{Slot}
 use Rattle.iteration_agree.specs.Rounds.{IsGather}
 use Rattle.iteration_agree.specs.Slots.{reported, standing_of}
-use Rattle.iteration_agree.specs.Under.{BackTo, MayBegin, MayPack, MayRelease, MayReport, MayRewind, SawAgreed}
+use Rattle.iteration_agree.specs.Under.{BackTo, MayPack, MayRelease, MayReport, MayRewind, SawAgreed}
 use Rattle.node_core.specs.Nodes.{NodeState, all_at, next_begin, rests}
 use Rattle.world_core.specs.declared.doing.SlotMove.{SlotMove}
 use Rattle.world_core.specs.declared.doing.SlotMove.TheVariants.{See, Rewind, Release, Report, Pack, Begin}

@@ -17,9 +17,9 @@ use Rattle.node_core.proofs.Lists.{all_but, all_by, map_set}
 use Rattle.conductor_core.specs.Tells.{is_to, mail_to}
 use Rattle.world_core.specs.declared.doing.Doing.TheVariants as doings
 use Rattle.world_core.specs.Sound.{AllTrue, names, names_to, slot_name}
-use Rattle.world_core.specs.Worlds.{Posts, Setting, SlotState, doing_of, named, number_of, posted, put_by, put_in, slot_at, slot_put, stand, with_slot}
+use Rattle.world_core.specs.Worlds.{Posts, Setting, SlotState, doing_of, named, number_of, posted, put_by, put_in, slot_at, slot_put, stand}
 use Rattle.world_core.proofs.Due.{first, second}
-use Rattle.world_core.proofs.Lists.{all_behind, all_got, all_to, get_mapped}
+use Rattle.world_core.proofs.Lists.{all_behind, all_got, get_mapped}
 use Rattle.world_core.proofs.Sides.{Stands}
 
 -- ---- slots by their names
@@ -193,8 +193,7 @@ module _ (s : Setting) (cut : CutState) (ends : ℕ → LastOrder) where
       gets : (x : SlotState) → x.node.slot ≡ slot → Before (boxes.Slot slot) letter more x → Awaits more (slot_put letter x)
       gets x name h =
           let mine : is_to x.node.slot (boxes.Slot slot) ≡ true = ap (λ (a : SlotId). slot.replica == a.replica && slot.node == a.node) name ∙ own_name slot in
-          let chain = subst (λ c. Chain s.plan s.script x.node.last (x.box ++ cond c (letter ∷ mail_to x.node.slot more) (mail_to x.node.slot more)) (ends x.node.slot.replica)) mine h.1 in
-          (
+          let chain = subst (λ c. Chain s.plan s.script x.node.last (x.box ++ cond c (letter ∷ mail_to x.node.slot more) (mail_to x.node.slot more)) (ends x.node.slot.replica)) mine h.1 in (
             put_stands letter x (subst (λ name. Holds s.plan s.script s.place (boxes.Slot name) letter) (sym name) is) h.0,
             subst (λ l. Chain s.plan s.script x.node.last l (ends x.node.slot.replica)) (sym (append_assoc x.box (letter ∷ []) (mail_to x.node.slot more))) chain,
           )

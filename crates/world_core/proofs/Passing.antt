@@ -1,6 +1,6 @@
 -- Every event keeps a world sound.
-use Rattle.std.proofs.Common.{◌≡◌, ◌≢◌, ℕ, zero, suc, ◌+◌, ◌≤◌, ◌<◌, Bool, true, false, cond, List, [], ◌∷◌, ◌++◌, map, refl, ap, sym, ◌∙◌, arith, subst, Option, Some, None}
-use Rattle.std.specs.Prelude.{◌==◌, ◌&&◌, nat_le, nat_lt, not, slice_get}
+use Rattle.std.proofs.Common.{◌≡◌, ℕ, zero, suc, ◌≤◌, ◌<◌, Bool, true, false, cond, List, [], ◌∷◌, ◌++◌, map, refl, ap, sym, ◌∙◌, arith, subst, Option, Some, None}
+use Rattle.std.specs.Prelude.{nat_le, nat_lt, not, slice_get}
 use Rattle.std.specs.List.{AllByRecursion}
 use Rattle.std.proofs.lemmas.Bool.{leb-true, ltb-true}
 use Rattle.chare_base.specs.declared.options.Options.{Options}
@@ -10,7 +10,7 @@ use Rattle.iteration_agree.specs.declared.round.Round.{Round}
 use Rattle.iteration_agree.specs.declared.round.Round.TheVariants.{Quiet, Gather, Agreed}
 use Rattle.iteration_agree.specs.declared.round.Taking.{Taking}
 use Rattle.iteration_agree.specs.declared.round.Taking.TheVariants as takings
-use Rattle.iteration_agree.specs.Cuts.{CutState, HasSlot, agreed, agreement, noted, opened, quieted}
+use Rattle.iteration_agree.specs.Cuts.{CutState, HasSlot, agreement, noted}
 use Rattle.iteration_agree.specs.Moves.{Agrees, Allowed, Move, Notes, Opens, Quiets, moved, mover}
 use Rattle.iteration_agree.specs.Rounds.{IsGather, IsQuiet, NamesReplica, number}
 use Rattle.iteration_agree.specs.Under.{IsCut}
@@ -21,23 +21,22 @@ use Rattle.letter_post.specs.Orders.{Chain}
 use Rattle.node_core.proofs.Lists.{all_but, all_by}
 use Rattle.conductor_core.specs.Conductors.{ConductorState, Heard, conductor_did, conductor_heard, nodes_of, wanted}
 use Rattle.conductor_core.specs.Moves.{slot_named}
-use Rattle.conductor_core.specs.Tells.{OrdersFollow, Tells, TellsOn, mail_to}
+use Rattle.conductor_core.specs.Tells.{OrdersFollow, TellsOn, mail_to}
 use Rattle.conductor_core.specs.declared.wants.CutAnswer.{CutAnswer}
 use Rattle.conductor_core.specs.declared.wants.CutAnswer.TheVariants as answers
 use Rattle.conductor_core.specs.declared.wants.CutMove.{CutMove}
 use Rattle.conductor_core.specs.declared.wants.CutMove.TheVariants as wants
 use Rattle.world_core.specs.declared.doing.Doing.{Doing}
 use Rattle.world_core.specs.declared.doing.Doing.TheVariants as doings
-use Rattle.world_core.specs.declared.event.Event.{Event}
 use Rattle.world_core.specs.declared.event.Event.TheVariants as events
 use Rattle.world_core.specs.Sound.{AllTrue, EveryEventKeeps, IsFor, IsPlaced, SlotSound, Sound, last_sent, names, slot_name}
-use Rattle.world_core.specs.Worlds.{Acted, Posts, Setting, SlotState, WorldState, after_conductor, after_slot, again, by_slot, conductor_made, conductor_moved, did_in, does, happens, has_slot, in_cut, is_gather, is_quiet, names_replica, number_of, posted, renewed, saw_in, sight_in, slot_at, stand, takes_move, told_by, with_noted, with_slot}
+use Rattle.world_core.specs.Worlds.{Acted, Posts, Setting, SlotState, WorldState, after_conductor, after_slot, again, by_slot, conductor_made, conductor_moved, did_in, does, happens, has_slot, in_cut, is_gather, is_quiet, names_replica, number_of, posted, saw_in, sight_in, slot_at, stand, takes_move, told_by, with_noted, with_slot}
 use Rattle.world_core.proofs.Acting.{does_well}
 use Rattle.world_core.proofs.Due.{first, second}
 use Rattle.world_core.proofs.Lists.{all_got, all_mapped, all_to}
 use Rattle.world_core.proofs.Mailing.{Awaits, Is, IsNamed, Pending, apart, names_set, place_is, posted_pending, slot_is}
-use Rattle.world_core.proofs.Sides.{Beside, Known, Shift, Stands, Well, sound_so, stands_so}
-use Rattle.world_core.proofs.Unordered.{NoOrders, all_mail}
+use Rattle.world_core.proofs.Sides.{Beside, Known, Stands, Well, sound_so, stands_so}
+use Rattle.world_core.proofs.Unordered.{all_mail}
 
 -- ---- a slot whose place stands as it did
 
@@ -118,8 +117,7 @@ module _ (law : Known) (s : Setting) (o : Options) (is : IsFor s o) where
         other m y there far =
             let old : SlotSound s w.cut w.conductor y = sound_at m y there in
             let away : y.node.slot ≡ x.node.slot → ⊥ = λ same. apart s.nodes slots sound.names m (number_of s.nodes slot) y slot there refl far (same ∙ at.name) in
-            let stays : stand a.cut y.node.slot ≡ stand w.cut y.node.slot = well.shift.others y.node.slot (has_place w.cut m y.node.slot sound.nodes (named_at m y there)) away in
-            (
+            let stays : stand a.cut y.node.slot ≡ stand w.cut y.node.slot = well.shift.others y.node.slot (has_place w.cut m y.node.slot sound.nodes (named_at m y there)) away in (
               stands_on s w.cut a.cut y stays well.shift.round (stands_so s w.cut w.conductor y old),
               mailed y y.node.slot (sent y.node.slot) old.chain,
             )
@@ -173,8 +171,7 @@ module _ (law : Known) (s : Setting) (o : Options) (is : IsFor s o) where
         each : (m : ℕ) (x : SlotState) → slice_get v.posts.slots m ≡ Some x → Awaits s v.cut (last_sent h.conductor) h.out x
         each m x there =
             let old = all_got (λ x. Stands s v.cut.round (stand v.cut x.node.slot) x × Chain s.plan s.script x.node.last x.box (sent x.node.slot)) v.posts.slots m x all there in
-            let named : IsNamed s.nodes m x.node.slot = place_is s.nodes v.posts.slots are m x there in
-            (
+            let named : IsNamed s.nodes m x.node.slot = place_is s.nodes v.posts.slots are m x there in (
               old.0,
               law.all s.plan s.script x.node.last (sent x.node.slot) (last_sent h.conductor x.node.slot.replica) x.box (mail_to x.node.slot h.out) old.1 (told_chain h x.node.slot on.follows named.replica named.node),
             )

@@ -1,18 +1,16 @@
 -- What the calls of a world ask holds of each that is sound.
-use Rattle.std.proofs.Common.{◌≡◌, ℕ, ◌≤◌, ◌<◌, List, [], ◌∷◌, refl, ap, sym, ◌∙◌, arith, subst, Some}
+use Rattle.std.proofs.Common.{◌≡◌, ℕ, List, [], ◌∷◌, refl, ap, ◌∙◌, arith, subst, Some}
 use Rattle.std.specs.Prelude.{slice_get}
-use Rattle.std.specs.List.{AllByRecursion}
-use Rattle.chare_base.specs.declared.options.Options.{Options}
 use Rattle.chare_base.specs.declared.plan.Plan.{Plan}
 use Rattle.letter_post.specs.declared.letter.Letter.{Letter}
 use Rattle.letter_post.specs.declared.order.LastOrder.{LastOrder}
 use Rattle.letter_post.specs.Orders.{Chain}
 use Rattle.node_core.specs.Keeps.{KeepsFits}
-use Rattle.node_core.specs.Rosters.{roster_of}
+use Rattle.node_core.specs.Rosters.{Roster, roster_of}
 use Rattle.node_core.proofs.Lists.{all_by}
 use Rattle.conductor_core.specs.Conductors.{IsOf}
-use Rattle.world_core.specs.Sound.{FirstFollows, IsFor, Served, Serves, SlotSound, Sound, SoundServes}
-use Rattle.world_core.specs.Worlds.{Setting, SlotState, WorldState, stand}
+use Rattle.world_core.specs.Sound.{FirstFollows, Served, SlotSound, SoundServes}
+use Rattle.world_core.specs.Worlds.{Setting, SlotState, stand}
 use Rattle.world_core.proofs.Acting.{stands_capped}
 use Rattle.world_core.proofs.Lists.{all_got}
 use Rattle.world_core.proofs.Mailing.{IsNamed, place_is}
@@ -44,7 +42,7 @@ sound_serves fits s o w is sound = record {
           fresh = record {
             renews = record {
               fits = fits s.plan s.script s.place x.node h.keeps;
-              roster = ap (λ (r : Rattle.node_core.specs.Rosters.Roster). r.iterations) h.keeps.roster.is ∙ roster_runs s.plan s.place x.node.slot.node;
+              roster = ap (λ (r : Roster). r.iterations) h.keeps.roster.is ∙ roster_runs s.plan s.place x.node.slot.node;
               slot = (named.replica, omega (arith, few, nodes));
             };
             seats = h.seats;

@@ -1,22 +1,20 @@
 -- What each move of a slot leaves of its node beside its place in the agreement.
-use Rattle.std.proofs.Common.{◌≡◌, ◌≢◌, ℕ, zero, suc, ◌+◌, ◌≤◌, ◌<◌, Bool, true, false, cond, List, [], ◌∷◌, map, refl, ap, sym, ◌∙◌, arith, subst, inl, inr, Option, Some, None}
+use Rattle.std.proofs.Common.{◌≡◌, ℕ, zero, suc, ◌≤◌, ◌<◌, Bool, true, false, cond, List, [], ◌∷◌, map, refl, ap, sym, ◌∙◌, arith, subst, inl, inr, Option, Some, None}
 use Rattle.std.specs.Prelude.{◌⊎◌, ◌==◌, ◌&&◌, IfSome, is_none, max, not, slice_get}
-use Rattle.std.specs.List.{AllByRecursion}
 use Rattle.std.proofs.lemmas.Bool.{eq-eqb, eqb-true}
 use Rattle.std.proofs.lemmas.Option.{same_Some}
 use Rattle.chare_base.specs.declared.plan.Plan.{Plan}
 use Rattle.chare_base.specs.declared.slots.SlotId.{SlotId}
-use Rattle.chare_base.specs.Placing.{Covers, Inhabitant, members, members_from}
+use Rattle.chare_base.specs.Placing.{Covers, Inhabitant, members_from}
 use Rattle.fault_script.specs.declared.fault.Fault.{Fault}
 use Rattle.iteration_agree.specs.declared.round.Leave.{Leave}
 use Rattle.iteration_agree.specs.declared.round.Leave.TheVariants as leaves
 use Rattle.iteration_agree.specs.declared.round.Round.{Round}
 use Rattle.iteration_agree.specs.declared.round.Round.TheVariants.{Quiet, Gather, Agreed}
-use Rattle.iteration_agree.specs.declared.round.Standing.{Standing}
 use Rattle.iteration_agree.specs.declared.slot.Cap.{Cap}
 use Rattle.iteration_agree.specs.declared.slot.Slot.{Slot}
 use Rattle.iteration_agree.specs.Cuts.{CutState, HasSlot, slot_of, slot_place}
-use Rattle.iteration_agree.specs.Moves.{Allowed, Move, Begins, Packs, Releases, Reports, Rewinds, Sees, moved, mover}
+use Rattle.iteration_agree.specs.Moves.{Allowed, Move, moved, mover}
 use Rattle.iteration_agree.specs.Rounds.{number}
 use Rattle.iteration_agree.specs.Slots.{cap_in, leave, limit, limit_seen, reported, slot_begun, slot_packed, slot_released, slot_reported, slot_rewound, slot_saw, standing_of, went}
 use Rattle.iteration_agree.specs.Under.{IsCut, SawAgreed, SeenAs, UnderSlot}
@@ -26,13 +24,12 @@ use Rattle.iteration_agree.proofs.OneSlot.{below, cap_here}
 use Rattle.object_steps.specs.Objects.{Progress}
 use Rattle.pup_state.specs.declared.piece.Piece.{Piece}
 use Rattle.node_core.specs.Keeps.{Alive, AllAt, Keeps, element_of}
-use Rattle.node_core.specs.Nodes.{Body, NodeState, all_at, node_packed, objects_of}
+use Rattle.node_core.specs.Nodes.{Body, NodeState, node_packed, objects_of}
 use Rattle.node_core.specs.Turns.{is_at}
 use Rattle.world_core.specs.declared.doing.Since.{Since}
-use Rattle.world_core.specs.declared.doing.Since.TheVariants.{Nothing, Ordered, Resumed}
+use Rattle.world_core.specs.declared.doing.Since.TheVariants.{Nothing, Resumed}
 use Rattle.world_core.specs.Sound.{IsBounded, IsSince, begun_of, fresh_of}
-use Rattle.world_core.specs.Worlds.{stand}
-use Rattle.world_core.proofs.Due.{PackDue}
+use Rattle.world_core.proofs.Due.{PackDue, second}
 use Rattle.world_core.proofs.Lists.{all_to}
 use Rattle.world_core.proofs.Sides.{Beside, Known, Shift, StaysAt, if_to}
 use Rattle.world_core.proofs.Staying.{Begun, packed_fresh, packed_objects}
@@ -166,10 +163,6 @@ none_lives i (node ∷ more) (suc e) j there none = by (node == j) (none_lives (
     by : (b : Bool) → (members_from (suc i) more j ≡ [] → ⊥) → cond b (i ∷ members_from (suc i) more j) (members_from (suc i) more j) ≡ [] → ⊥
     by true rest h = absurd (let q : i ∷ members_from (suc i) more j ≡ [] = h in cc)
     by false rest h = rest h
-
-second : (a b : Bool) → (a && b) ≡ true → b ≡ true
-second true b h = h
-second false b h = absurd (let e : false ≡ true = h in cc)
 
 -- elements are at one iteration
 one_at : (a b : ℕ) (all : List Progress) → (all ≡ [] → ⊥) → AllAt a all → AllAt b all → a ≡ b

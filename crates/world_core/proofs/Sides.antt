@@ -1,26 +1,23 @@
 -- A slot beside its place in the agreement.
-use Rattle.std.proofs.Common.{◌≡◌, ℕ, suc, ◌≤◌, ◌<◌, Bool, true, false, cond, List, [], ◌∷◌, ◌++◌, refl, ap, sym, ◌∙◌, arith, subst, inl, inr, Option, Some, None}
-use Rattle.std.specs.Prelude.{◌⊎◌, ◌==◌, IfSome}
+use Rattle.std.proofs.Common.{◌≡◌, ℕ, ◌≤◌, false, List, [], refl, sym, subst, Option, Some, None}
+use Rattle.std.specs.Prelude.{◌⊎◌, IfSome}
 use Rattle.std.specs.List.{AllByRecursion}
-use Rattle.chare_base.specs.declared.plan.Plan.{Plan}
 use Rattle.chare_base.specs.declared.slots.SlotId.{SlotId}
 use Rattle.iteration_agree.specs.declared.round.Round.{Round}
 use Rattle.iteration_agree.specs.declared.round.Standing.{Standing}
 use Rattle.iteration_agree.specs.declared.slot.Slot.{Slot}
 use Rattle.iteration_agree.specs.Cuts.{CutState, HasSlot, slot_of}
 use Rattle.iteration_agree.specs.Laws.{EachSlotMoves, MovesKeep, NotesLeaveTheRound, OthersStand, RoundsAreCounted, SlotsLeaveTheRound, StartIsCut}
-use Rattle.iteration_agree.specs.Slots.{reported, standing_of}
+use Rattle.iteration_agree.specs.Slots.{standing_of}
 use Rattle.iteration_agree.specs.Under.{IsCut, SawAgreed}
 use Rattle.letter_post.specs.declared.letter.BoxId.TheVariants as boxes
 use Rattle.letter_post.specs.declared.letter.Letter.{Letter}
-use Rattle.letter_post.specs.declared.letter.Sent.{Sent}
 use Rattle.letter_post.specs.declared.order.LastOrder.{LastOrder}
 use Rattle.letter_post.specs.Orders.{Chain, ChainsTakeAll, ChainsTakeOne, MailFollows}
-use Rattle.letter_post.specs.Truth.{Holds, Says}
-use Rattle.object_steps.specs.Objects.{Progress}
+use Rattle.letter_post.specs.Truth.{Says}
 use Rattle.pup_state.specs.declared.piece.Piece.{Piece}
-use Rattle.node_core.specs.Keeps.{AllAt, HearsKeep, Keeps, KeepsFits, KeepsOn, OrdersRest, PacksKeep, RunsKeep, StartsKeep}
-use Rattle.node_core.specs.Nodes.{Body, NodeState, Outcome, objects_of}
+use Rattle.node_core.specs.Keeps.{HearsKeep, Keeps, KeepsOn, OrdersRest, PacksKeep, RunsKeep, StartsKeep}
+use Rattle.node_core.specs.Nodes.{Body, Outcome, objects_of}
 use Rattle.conductor_core.specs.Conductors.{ConductorState}
 use Rattle.conductor_core.specs.Tells.{DidTell, HearsTell, StartsTell}
 use Rattle.world_core.specs.declared.doing.Since.{Since}

@@ -1,5 +1,5 @@
 -- What events leave of a node: how far its elements are, and the piece that it packed.
-use Rattle.std.proofs.Common.{◌≡◌, ℕ, zero, suc, ◌≤◌, ◌<◌, ℤ, Bool, true, false, cond, List, [], ◌∷◌, length, map, refl, ap, sym, ◌∙◌, arith, subst, Option, Some, None}
+use Rattle.std.proofs.Common.{◌≡◌, ℕ, suc, ◌≤◌, ◌<◌, ℤ, Bool, true, false, cond, List, [], ◌∷◌, length, map, refl, ap, sym, ◌∙◌, arith, subst, Option, Some, None}
 use Rattle.std.specs.Prelude.{◌==◌, ◌&&◌, IfSome, is_none, nat_lt, slice_get, slice_set}
 use Rattle.std.specs.List.{AllByRecursion}
 use Rattle.std.proofs.lemmas.Bool.{ltb-true}
@@ -15,17 +15,19 @@ use Rattle.chare_base.specs.declared.slots.SlotId.{SlotId}
 use Rattle.chare_base.specs.Elements.{place_of, parts_at, steps_of}
 use Rattle.chare_base.specs.Entries.{reduction_of}
 use Rattle.chare_base.specs.Flip.{Flip}
+use Rattle.chare_base.specs.Placing.{members}
+use Rattle.chare_eval.specs.Inside.{none_done}
 use Rattle.chare_eval.specs.Stage.{one_value}
 use Rattle.fault_script.specs.declared.fault.Fault.{Fault}
 use Rattle.letter_post.specs.declared.letter.Letter.{Letter}
 use Rattle.letter_post.specs.declared.letter.Letter.TheVariants as letters
 use Rattle.letter_post.specs.declared.stamp.Stamp.{Stamp}
-use Rattle.letter_post.specs.Orders.{order_of}
 use Rattle.letter_post.specs.Stamps.{lines_of, same_stamp}
+use Rattle.ref_messages.specs.Queue.{from}
 use Rattle.object_steps.specs.declared.ready.Ready.{Ready}
 use Rattle.object_steps.specs.declared.ready.Ready.TheVariants as ready_as
 use Rattle.object_steps.specs.Laws.{struck_by}
-use Rattle.object_steps.specs.Objects.{Progress, advanced, all_done, begun, gone_on, key_of, need_of, ran, ready, taken}
+use Rattle.object_steps.specs.Objects.{Progress, advanced, all_done, begun, key_of, need_of, ran, ready, taken}
 use Rattle.pup_state.specs.declared.piece.Piece.{Piece}
 use Rattle.node_core.specs.Keeps.{AllAt, RestsAt}
 use Rattle.node_core.specs.Nodes.{Body, NodeState, all_at_of, body_heard, body_ran, body_ran_at, body_ran_by, committed, committed_with, is_new, node_heard, node_heard_by, node_packed, node_packed_by, node_ran, node_ran_by, objects_of, outcome_of, parcel_heard, partial_heard, piece_kept, piece_of, quietly, resumed, share_heard, stands, taken_at, taken_by, total_heard, total_taken, unmoved, with_base}
@@ -72,7 +74,7 @@ module _ (p : Plan) (lines : List Flip) (top : ℕ) where
       at None = omega arith
       at (Some s) = omega arith
 
-      by : (a b : Bool) → begun_of (cond a (cond b (record after { done = suc after.done; step = None; parts = Rattle.chare_eval.specs.Inside.none_done; mail = Rattle.ref_messages.specs.Queue.from after.mail (suc after.done) }) (record after { step = Some (suc spot.step); parts = Rattle.chare_eval.specs.Inside.none_done })) after) ≤ suc o.done
+      by : (a b : Bool) → begun_of (cond a (cond b (record after { done = suc after.done; step = None; parts = none_done; mail = from after.mail (suc after.done) }) (record after { step = Some (suc spot.step); parts = none_done })) after) ≤ suc o.done
       by true true = omega arith
       by true false = omega arith
       by false b = at o.step
@@ -310,7 +312,7 @@ starts_begun p (e ∷ more) = (omega arith, starts_begun p more)
 
 pub start_begun : (p : Plan) (script : List Fault) (place : List ℕ) (slot : SlotId) (live : LineSet) → AllByRecursion (Begun 0) (objects_of (start_state p script place slot live).body)
 unfolding start_state
-start_begun p script place slot live = starts_begun p (Rattle.chare_base.specs.Placing.members place slot.node)
+start_begun p script place slot live = starts_begun p (members place slot.node)
 
 pub start_fresh : (p : Plan) (script : List Fault) (place : List ℕ) (slot : SlotId) (live : LineSet) → fresh_of (start_state p script place slot live).body ≡ None
 unfolding start_state

@@ -1,5 +1,5 @@
 -- What nodes send are no orders.
-use Rattle.std.proofs.Common.{◌≡◌, ℕ, ℤ, Bool, true, false, cond, List, [], ◌∷◌, ◌++◌, refl, Option, Some, None}
+use Rattle.std.proofs.Common.{◌≡◌, ℕ, ℤ, Bool, true, false, cond, List, [], ◌∷◌, refl, Option, Some, None}
 use Rattle.std.specs.Prelude.{◌==◌, ◌&&◌, slice_get}
 use Rattle.std.specs.List.{AllByRecursion}
 use Rattle.chare_base.specs.declared.message.ReductionId.{ReductionId}
@@ -25,11 +25,11 @@ use Rattle.pup_state.specs.declared.piece.Piece.{Piece}
 use Rattle.node_core.specs.declared.piece.Held.{Held}
 use Rattle.node_core.specs.declared.turn.Sender.{Sender}
 use Rattle.node_core.specs.Gatherings.{tallied}
-use Rattle.node_core.specs.Nodes.{Body, NodeState, Passing, body_heard, body_ran, body_ran_at, body_ran_by, compared, contributed_to, is_new, node_heard, node_heard_as, node_heard_by, node_packed, node_packed_by, node_ran, node_ran_by, obeyed, obeyed_by, out_of, outcome_of, pack_sends, parcel_heard, partial_heard, partial_sent, passed, passed_one, piece_kept, piece_of, quietly, resumed, sender_of, sent_again, share_heard, stands, to_slot, total_heard, total_sent, turn_of, unmoved, verdict_sent, with_tallied}
+use Rattle.node_core.specs.Nodes.{Body, NodeState, Passing, body_heard, body_ran, body_ran_at, body_ran_by, compared, contributed_to, is_new, node_heard, node_heard_as, node_heard_by, node_packed, node_packed_by, node_ran, node_ran_by, obeyed, obeyed_by, out_of, outcome_of, pack_sends, parcel_heard, partial_heard, partial_sent, passed, passed_one, piece_kept, piece_of, quietly, sender_of, sent_again, share_heard, stands, to_slot, total_heard, total_sent, turn_of, unmoved, verdict_sent, with_tallied}
 use Rattle.node_core.specs.Rosters.{Roster, count_of, number_in, seat_of, sharers_of}
 use Rattle.node_core.specs.Turns.{begins, turned}
 use Rattle.conductor_core.specs.Tells.{is_to, mail_to}
-use Rattle.world_core.proofs.Lists.{all_behind, all_joined}
+use Rattle.world_core.proofs.Lists.{all_joined}
 
 abbrev pub NoOrder : Sent → Type 0
 NoOrder sent = order_of sent.letter ≡ None
