@@ -5,3 +5,13 @@ pub mod Drilling
 pub mod Counting
 pub mod Prefixes
 pub mod Seating
+pub mod Unordered
+pub mod Staying
+pub mod Sides
+pub mod Due
+pub mod Shifting
+pub mod Mailing
+pub mod Acting
+pub mod Passing
+pub mod Beginning
+pub mod Serving
