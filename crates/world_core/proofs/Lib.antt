@@ -2,3 +2,4 @@ pub mod Lists
 pub mod Counting
 pub mod Prefixes
 pub mod Seating
+pub mod Slots
