@@ -2,7 +2,7 @@
 
 ghost use Rattle.std.specs.Prelude.{◌≡◌, length, slice_get};
 ghost use Rattle.node_core.specs.Keeps.{Fitted};
-ghost use Rattle.node_core.specs.Nodes.{can_run_by, element_in, objects_of};
+ghost use Rattle.node_core.specs.Nodes.{can_run_by, completed_by, element_in, objects_of};
 ghost use Rattle.node_core.specs.Rosters.{seat_of};
 
 use crate::node::Node;
