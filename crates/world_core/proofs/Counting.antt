@@ -156,6 +156,12 @@ between_rank top its done = by (nat_lt done its) refl (nat_lt done top) refl (do
     by false ia b ib true ic = let more : its ≤ done = ltb-false done its ia in let same : done ≡ top = eqb-true done top ic in grind (arith, nat_tests)
     by false ia b ib false ic = refl
 
+abbrev after_one : Plan → ℕ → Option ℕ → Progress → Option ℕ → ℕ
+after_one p top least o t = rank top (cond (is_none t && nat_lt o.done p.iterations) (lesser least o.done) least)
+
+abbrev with_rank : Plan → ℕ → Option ℕ → Readiness → ℕ
+with_rank p top least r = min (rank top least) (standing_rank top p.iterations r)
+
 -- what one object makes of the least
 step_rank : (p : Plan) (top : ℕ) (least : Option ℕ) (o : Progress) → rank top (cond (begins p.iterations o) (lesser least o.done) least) ≡ min (rank top least) (standing_rank top p.iterations (readiness p top o))
 step_rank p top least o = by o.step refl
@@ -168,16 +174,10 @@ step_rank p top least o = by o.step refl
     inside true = omega (arith, rank_few top least)
     inside false = omega (arith, rank_few top least)
 
-    abbrev after : Option ℕ → ℕ
-    after t = rank top (cond (is_none t && nat_lt o.done p.iterations) (lesser least o.done) least)
-
-    abbrev with_rank : Readiness → ℕ
-    with_rank r = min (rank top least) (standing_rank top p.iterations r)
-
-    by : (s : Option ℕ) → o.step ≡ s → after o.step ≡ with_rank (readiness p top o)
+    by : (s : Option ℕ) → o.step ≡ s → after_one p top least o o.step ≡ with_rank p top least (readiness p top o)
     by None is =
-        ap after is ∙ chosen (nat_lt o.done p.iterations) ∙ ap (min (rank top least)) (between_rank top p.iterations o.done) ∙ sym (ap with_rank (shaped p top o None is))
-    by (Some step) is = ap after is ∙ inside (can_run p top o) ∙ sym (ap with_rank (shaped p top o (Some step) is))
+        ap (after_one p top least o) is ∙ chosen (nat_lt o.done p.iterations) ∙ ap (min (rank top least)) (between_rank top p.iterations o.done) ∙ sym (ap (with_rank p top least) (shaped p top o None is))
+    by (Some step) is = ap (after_one p top least o) is ∙ inside (can_run p top o) ∙ sym (ap (with_rank p top least) (shaped p top o (Some step) is))
 
 all_rank : (p : Plan) (top : ℕ) (least : Option ℕ) (all : List Progress) → rank top (next_begin_of p.iterations least all) ≡ min (rank top least) (ranks top p.iterations (map (readiness p top) all))
 all_rank p top least [] = omega (arith, rank_few top least)

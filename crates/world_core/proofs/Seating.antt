@@ -66,7 +66,8 @@ told_by p top (Some o) there is = by o.step refl
         ∙ ap (λ b. cond b (cond (can_run p top o) Ready Awaits) Past) is ∙ sym (shaped p top o (Some s) step)
 
 is_there : (all : List Progress) (i : ℕ) → nat_lt i (length all) ≡ cond (is_none (slice_get all i)) false true
-is_there [] i = refl
+is_there [] zero = refl
+is_there [] (suc i) = refl
 is_there (o ∷ more) zero = refl
 is_there (o ∷ more) (suc i) = is_there more i
 

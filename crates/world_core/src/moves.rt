@@ -185,7 +185,9 @@ fn all_level(plan: &Plan, top: u64, node: &Node, seats: &SeatStates) -> bool
     requires seats { seats.now ≡ seats_of plan.now top node.now }
     ensures { result ≡ all_at top node.now }
 {
-    let _ = (plan, top, node);
+    let _ = plan;
+    let _ = top;
+    let _ = node;
     seats.level() == seats.len()
 }
 

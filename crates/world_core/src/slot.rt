@@ -252,7 +252,8 @@ fn first_running(
     ensures first { result ≡ first_running plan.now top node.now }
     ensures stays { seats.new ≡ seats.old }
 {
-    let _ = (plan, top);
+    let _ = plan;
+    let _ = top;
     if node.rests() {
         return None;
     }
