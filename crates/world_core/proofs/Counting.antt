@@ -47,6 +47,20 @@ count_one is [] i y h = absurd (omega (arith, h))
 count_one is (z ∷ xs) zero y h = omega arith
 count_one is (z ∷ xs) (suc i) y h = omega (arith, count_one is xs i y (omega (arith, h)))
 
+-- as the code tells one again, which read what was told of it
+pub told_less : (is : Readiness → Bool) (xs : List Readiness) (i n : ℕ) (x : Readiness) (b : Bool) → i < length xs → x ≡ slice_index_or xs i x → b ≡ is x → n ≡ count is xs → cond b 1 0 ≤ n
+told_less is xs i n x b there read test counted =
+    let one_is : cond b 1 0 ≡ one is (slice_index_or xs i x) = ap (λ c. cond c 1 0) test ∙ ap (one is) read in
+    omega (arith, one_is, count_one is xs i x there, counted)
+
+pub told_counts : (is : Readiness → Bool) (xs ys : List Readiness) (i n m : ℕ) (x y : Readiness) (b c : Bool) → i < length xs → x ≡ slice_index_or xs i x → b ≡ is x → c ≡ is y → n ≡ count is xs → m + cond b 1 0 ≡ n + cond c 1 0 →
+    ys ≡ slice_set xs i y → m ≡ count is ys
+told_counts is xs ys i n m x y b c there read before after counted told new =
+    let one_was : cond b 1 0 ≡ one is (slice_index_or xs i x) = ap (λ d. cond d 1 0) before ∙ ap (one is) read in
+    let one_is : cond c 1 0 ≡ one is y = ap (λ d. cond d 1 0) after in
+    let same : count is ys ≡ count is (slice_set xs i y) = ap (count is) new in
+    omega (arith, one_was, one_is, same, count_set is xs i y x there, counted, told)
+
 -- ---- how an object stands
 
 -- by cases on whether it is inside an iteration

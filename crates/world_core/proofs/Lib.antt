@@ -3,3 +3,4 @@ pub mod Counting
 pub mod Prefixes
 pub mod Seating
 pub mod Slots
+pub mod SlotsActed

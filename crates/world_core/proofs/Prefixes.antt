@@ -37,6 +37,12 @@ set_clear all new from seat r is none =
 pub set_within : (all new : List Readiness) (from seat : ℕ) (r : Readiness) → new ≡ slice_set all seat r → from ≤ length all → min from seat ≤ length new
 set_within all new from seat r is h = omega (arith, ap length is, set_length all seat r, h)
 
+pub clear_at : (all new : List Readiness) (from seat least : ℕ) (r : Readiness) → least ≡ min from seat → new ≡ slice_set all seat r → first_able 0 (take from all) ≡ None → first_able 0 (take least new) ≡ None
+clear_at all new from seat least r at is none = ap (λ m. first_able 0 (take m new)) at ∙ set_clear all new from seat r is none
+
+pub within_at : (all new : List Readiness) (from seat least : ℕ) (r : Readiness) → least ≡ min from seat → new ≡ slice_set all seat r → from ≤ length all → least ≤ length new
+within_at all new from seat least r at is h = omega (arith, at, set_within all new from seat r is h)
+
 -- a seat that isn't there changes nothing
 pub set_nowhere : (all : List Readiness) (seat : ℕ) (r : Readiness) → length all ≤ seat → slice_set all seat r ≡ all
 set_nowhere [] seat r h = refl
@@ -56,10 +62,10 @@ next_from k (r ∷ more) (suc i) x none below is = by (is_able r) none (λ rest.
     by false none rest = rest none
 
 -- one that was looked at can't run
-pub next_none : (all : List Readiness) (i n : ℕ) (x : Readiness) → n ≡ i + 1 → first_able 0 (take i all) ≡ None → i < length all → x ≡ slice_index_or all i x → is_able x ≡ false → first_able 0 (take n all) ≡ None
-next_none all i n x same none below at is =
+pub next_none : (all : List Readiness) (i n : ℕ) (x : Readiness) → n ≡ i + 1 → first_able 0 (take i all) ≡ None → i < length all → is_able (slice_index_or all i x) ≡ false → first_able 0 (take n all) ≡ None
+next_none all i n x same none below is =
     let one : n ≡ suc i = omega (arith, same) in
-    ap (λ m. first_able 0 (take m all)) one ∙ next_from 0 all i x none below (sym (ap is_able at) ∙ is)
+    ap (λ m. first_able 0 (take m all)) one ∙ next_from 0 all i x none below is
 
 found_from : (k : ℕ) (all : List Readiness) (i : ℕ) (x : Readiness) → first_able k (take i all) ≡ None → i < length all → is_able (slice_index_or all i x) ≡ true → first_able k all ≡ Some (k + i)
 found_from k [] i x none below is = absurd (omega (arith, below))
@@ -72,8 +78,8 @@ found_from k (r ∷ more) (suc i) x none below is = by (is_able r) none (λ rest
     by false none rest = let same : suc k + i ≡ k + suc i = omega arith in rest none ∙ ap Some same
 
 -- one that was looked at can
-pub found_at : (all : List Readiness) (i : ℕ) (x : Readiness) → first_able 0 (take i all) ≡ None → i < length all → x ≡ slice_index_or all i x → is_able x ≡ true → first_able 0 all ≡ Some i
-found_at all i x none below at is = let same : 0 + i ≡ i = omega arith in found_from 0 all i x none below (sym (ap is_able at) ∙ is) ∙ ap Some same
+pub found_at : (all : List Readiness) (i : ℕ) (x : Readiness) → first_able 0 (take i all) ≡ None → i < length all → is_able (slice_index_or all i x) ≡ true → first_able 0 all ≡ Some i
+found_at all i x none below is = let same : 0 + i ≡ i = omega arith in found_from 0 all i x none below is ∙ ap Some same
 
 whole : (all : List Readiness) → take (length all) all ≡ all
 whole [] = refl

@@ -1,6 +1,8 @@
 -- How objects stand: what is looked at again after an event is all that may have changed.
 use Rattle.std.proofs.Common.{◌≡◌, ℕ, zero, suc, Bool, true, false, cond, ◌+◌, ◌<◌, List, [], ◌∷◌, ◌++◌, drop, length, map, refl, ap, sym, subst, ◌∙◌, arith, Option, Some, None}
 use Rattle.std.specs.Prelude.{◌==◌, ◌&&◌, is_none, nat_lt, slice_get, slice_set, ℤ}
+use Rattle.std.proofs.lemmas.Bool.{le-ltb, lt-ltb}
+use Rattle.std.proofs.lemmas.Bool.Decides.{nat_tests}
 use Rattle.chare_base.specs.declared.message.Payload.{Payload}
 use Rattle.chare_base.specs.declared.message.EntryId.{EntryId}
 use Rattle.chare_base.specs.declared.message.ReductionId.{ReductionId}
@@ -65,11 +67,13 @@ told_by p top (Some o) there is = by o.step refl
         ap (λ (t : Option ℕ). told p top (cond (is_none t) (Some o.done) None) (can_run p top o) there) step
         ∙ ap (λ b. cond b (cond (can_run p top o) Ready Awaits) Past) is ∙ sym (shaped p top o (Some s) step)
 
+both_less : (i l : ℕ) → nat_lt (suc i) (suc l) ≡ nat_lt i l
+both_less i l = grind (arith, nat_tests)
+
 is_there : (all : List Progress) (i : ℕ) → nat_lt i (length all) ≡ cond (is_none (slice_get all i)) false true
-is_there [] zero = refl
-is_there [] (suc i) = refl
-is_there (o ∷ more) zero = refl
-is_there (o ∷ more) (suc i) = is_there more i
+is_there [] i = le-ltb i 0 (omega arith)
+is_there (o ∷ more) zero = lt-ltb 0 (suc (length more)) (omega arith)
+is_there (o ∷ more) (suc i) = both_less i (length more) ∙ is_there more i
 
 pub told_at : (p : Plan) (top : ℕ) (n : NodeState) (i : ℕ) →
     told p top (completed_by (slice_get (objects_of n.body) i)) (can_run_by p top (slice_get (objects_of n.body) i)) (nat_lt i (length (objects_of n.body))) ≡ readiness_at p top n i
