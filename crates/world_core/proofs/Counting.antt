@@ -1,8 +1,7 @@
 -- How many seats are behind, and how many are level: what is kept of these counts, and what they say of a node.
-use Rattle.std.proofs.Common.{◌≡◌, ℕ, zero, suc, ◌+◌, ◌≤◌, ◌<◌, Bool, true, false, cond, List, [], ◌∷◌, ◌++◌, length, map, refl, ap, sym, ◌∙◌, arith, subst, Option, Some, None}
-use Rattle.std.specs.Prelude.{◌==◌, ◌&&◌, nat_lt, nat_le, is_none, min, slice_index_or, slice_set}
-use Rattle.std.specs.List.{list_all}
-use Rattle.std.proofs.lemmas.Bool.{eq-eqb, eqb-true, eqb-false, ltb-true, ltb-false}
+use Rattle.std.proofs.Common.{◌≡◌, ℕ, zero, suc, ◌+◌, ◌≤◌, ◌<◌, Bool, true, false, cond, List, [], ◌∷◌, ◌++◌, length, map, refl, ap, sym, ◌∙◌, arith, Option, Some, None}
+use Rattle.std.specs.Prelude.{◌==◌, ◌&&◌, nat_lt, is_none, min, slice_index_or, slice_set}
+use Rattle.std.proofs.lemmas.Bool.{eqb-true, ltb-true, ltb-false}
 use Rattle.std.proofs.lemmas.Bool.Decides.{nat_tests}
 use Rattle.chare_base.specs.declared.plan.Plan.{Plan}
 use Rattle.iteration_agree.specs.declared.round.Standing.{Standing}
@@ -11,10 +10,9 @@ use Rattle.node_core.specs.Turns.{begins, can_run, is_at}
 use Rattle.object_steps.specs.Objects.{Progress}
 use Rattle.world_core.specs.declared.doing.Readiness.{Readiness}
 use Rattle.world_core.specs.declared.doing.Readiness.TheVariants.{Behind, Ready, Awaits, Level, Past}
-use Rattle.world_core.specs.declared.doing.SlotMove.{SlotMove}
 use Rattle.world_core.specs.Moves.{begin_due, begin_if}
-use Rattle.world_core.specs.Steps.{count, is_able, is_behind, is_level}
-use Rattle.world_core.specs.Worlds.{between, readiness, readiness_in, seats_of}
+use Rattle.world_core.specs.Steps.{count, is_behind, is_level}
+use Rattle.world_core.specs.Worlds.{readiness, readiness_in, seats_of}
 
 -- ---- counts of a list
 

@@ -1,5 +1,5 @@
 -- The first seat that can run, behind seats that can't.
-use Rattle.std.proofs.Common.{◌≡◌, ℕ, zero, suc, ◌+◌, ◌≤◌, ◌<◌, Bool, true, false, cond, List, [], ◌∷◌, length, take, refl, ap, sym, ◌∙◌, arith, Option, Some, None}
+use Rattle.std.proofs.Common.{◌≡◌, ℕ, zero, suc, ◌+◌, ◌≤◌, ◌<◌, Bool, true, false, cond, List, [], ◌∷◌, length, take, refl, ap, sym, ◌∙◌, arith, Some, None}
 use Rattle.std.specs.Prelude.{slice_index_or, slice_set, min}
 use Rattle.world_core.specs.declared.doing.Readiness.{Readiness}
 use Rattle.world_core.specs.Steps.{first_able, is_able}

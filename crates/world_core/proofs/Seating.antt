@@ -17,7 +17,7 @@ use Rattle.letter_post.specs.declared.stamp.Stamp.{Stamp}
 use Rattle.letter_post.specs.Stamps.{lines_of, same_stamp}
 use Rattle.object_steps.specs.Objects.{Progress, ready}
 use Rattle.node_core.specs.declared.piece.Held.{Held}
-use Rattle.node_core.specs.Nodes.{Body, NodeState, Outcome, awake, body_ran, body_ran_at, body_ran_by, completed_by, can_run_by, element_in, first_running, first_running_of, is_new, node_heard, node_heard_by, node_packed, node_packed_by, node_ran, node_ran_by, objects_of, outcome_of, parcel_heard, partial_heard, piece_kept, rests, rests_by, share_heard, stands, taken_at, taken_by, unmoved}
+use Rattle.node_core.specs.Nodes.{Body, NodeState, awake, body_ran, body_ran_at, body_ran_by, completed_by, can_run_by, element_in, first_running, first_running_of, is_new, node_heard, node_heard_by, node_ran, node_ran_by, objects_of, outcome_of, parcel_heard, partial_heard, piece_kept, rests, rests_by, share_heard, stands, taken_at, taken_by, unmoved}
 use Rattle.node_core.specs.Rosters.{number_in, seat_of, sharers_of}
 use Rattle.node_core.specs.Turns.{can_run, is_step}
 use Rattle.world_core.specs.declared.doing.Readiness.{Readiness}
@@ -25,7 +25,7 @@ use Rattle.world_core.specs.declared.doing.Readiness.TheVariants.{Behind, Ready,
 use Rattle.world_core.specs.declared.doing.Reach.TheVariants.{Element}
 use Rattle.world_core.specs.Steps.{first_able, is_able, marked, marked_by, reach_of, readiness_at, readiness_by}
 use Rattle.world_core.specs.Worlds.{readiness, seats_of}
-use Rattle.world_core.proofs.Counting.{shape, shaped}
+use Rattle.world_core.proofs.Counting.{shaped}
 
 -- ---- one object
 

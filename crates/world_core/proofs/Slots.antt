@@ -1,8 +1,7 @@
 -- What the calls of a slot ask and answer: a move that is due may be made, a node after an event fits the plan, and the
 -- slot after an event is put together.
-use Rattle.std.proofs.Common.{◌≡◌, ℕ, ◌+◌, ◌≤◌, ◌<◌, Bool, true, false, cond, List, [], ◌∷◌, ◌++◌, refl, ap, sym, subst, ◌∙◌, arith, Option, Some, None}
+use Rattle.std.proofs.Common.{◌≡◌, ℕ, ◌≤◌, Bool, true, false, cond, List, ◌∷◌, refl, ap, sym, subst, ◌∙◌, arith, Option, Some, None}
 use Rattle.std.specs.Prelude.{◌==◌, ◌&&◌, ◌||◌, not, is_none, nat_le, nat_lt}
-use Rattle.std.specs.List.{AllByRecursion}
 use Rattle.std.specs.Option.{ForSome}
 use Rattle.std.proofs.lemmas.Bool.{leb-true, ltb-true, eqb-true}
 use Rattle.std.proofs.lemmas.Option.{same_Some}
@@ -11,7 +10,7 @@ use Rattle.chare_base.specs.declared.slots.SlotId.{SlotId}
 use Rattle.iteration_agree.specs.Cuts.{CutState, HasSlot, begun_by, packed_by, released_by, reported_by, rewound_by, seen_by, slot_of}
 use Rattle.iteration_agree.specs.Rounds.{IsGather}
 use Rattle.iteration_agree.specs.Slots.{reported, standing_of}
-use Rattle.iteration_agree.specs.Under.{BackTo, MayBegin, MayPack, MayRelease, MayReport, MayRewind, SawAgreed}
+use Rattle.iteration_agree.specs.Under.{BackTo, SawAgreed}
 use Rattle.iteration_agree.specs.declared.round.Round.{Round}
 use Rattle.iteration_agree.specs.declared.round.Round.TheVariants.{Quiet, Gather, Agreed}
 use Rattle.iteration_agree.specs.declared.round.Standing.{Standing}
@@ -23,7 +22,6 @@ use Rattle.letter_post.specs.declared.letter.Sent.{Sent}
 use Rattle.node_core.specs.Keeps.{Fitted, HearsKeep, KeepsFits, KeepsOn, PacksKeep, RunsKeep}
 use Rattle.node_core.specs.Nodes.{NodeState, Outcome, all_at, next_begin, node_heard, node_packed, node_ran, outcome_of, rests}
 use Rattle.letter_post.specs.declared.order.LastOrder.{LastOrder}
-use Rattle.node_core.specs.Rosters.{roster_of}
 use Rattle.world_core.specs.declared.doing.Doing.{Doing}
 use Rattle.world_core.specs.declared.doing.Readiness.{Readiness}
 use Rattle.world_core.specs.declared.doing.SlotMove.{SlotMove}
@@ -31,8 +29,8 @@ use Rattle.world_core.specs.declared.doing.SlotMove.TheVariants.{See, Rewind, Re
 use Rattle.world_core.specs.declared.doing.Since.{Since}
 use Rattle.world_core.specs.Moves.{begin_due, begin_if, goes_to, is_below, is_resumed, limit_of, may_go_back, move_by, move_of, move_on, pack_due, pack_or_begin, release_due, report_due, same_round}
 use Rattle.world_core.specs.Sound.{AllTrue, FirstFollows, Served}
-use Rattle.world_core.specs.Steps.{Fresh, Renews}
-use Rattle.world_core.specs.Worlds.{Acted, MayMove, Setting, SlotState, acted, doing_of, renewed, seats_of, shifted, slot_move, stand}
+use Rattle.world_core.specs.Steps.{Renews}
+use Rattle.world_core.specs.Worlds.{Acted, MayMove, Setting, SlotState, acted, doing_of, seats_of, shifted, slot_move, stand}
 
 -- ---- a move that is due may be made
 
@@ -106,9 +104,11 @@ module _ (p : Plan) (n : NodeState) (s : Slot) where
       let same : k ≡ j = same_Some k j h in
       let all : (s.top == k && nat_le k p.iterations && not t.packed && all_at k n) ≡ true = sym is in
       let first = left (s.top == k && nat_le k p.iterations && not t.packed) (all_at k n) all in
-      let second = left (s.top == k && nat_le k p.iterations) (not t.packed) first in
-      (eqb-true s.top k (left (s.top == k) (nat_le k p.iterations) second), subst (λ i. all_at i n ≡ true) same (right (s.top == k && nat_le k p.iterations && not t.packed) (all_at k n) all),
-      subst (λ i. i ≤ p.iterations) same (leb-true k p.iterations (right (s.top == k) (nat_le k p.iterations) second)))
+      let second = left (s.top == k && nat_le k p.iterations) (not t.packed) first in (
+        eqb-true s.top k (left (s.top == k) (nat_le k p.iterations) second),
+        subst (λ i. all_at i n ≡ true) same (right (s.top == k && nat_le k p.iterations && not t.packed) (all_at k n) all),
+        subst (λ i. i ≤ p.iterations) same (leb-true k p.iterations (right (s.top == k) (nat_le k p.iterations) second)),
+      )
 
   packs_in : (seen : Round) (j : ℕ) → pack_due p n t seen ≡ Some j → SawAgreed s.top seen × (all_at j n ≡ true) × (j ≤ p.iterations)
   packs_in (Quiet r) j h = absurd (let q : None ≡ Some j = h in cc)

@@ -6,12 +6,12 @@ use Rattle.chare_base.specs.declared.plan.Plan.{Plan}
 use Rattle.chare_base.specs.declared.slots.LineSet.{LineSet}
 use Rattle.chare_base.specs.declared.slots.SlotId.{SlotId}
 use Rattle.fault_script.specs.declared.fault.Fault.{Fault}
-use Rattle.iteration_agree.specs.Cuts.{CutState, HasSlot, packed_by}
+use Rattle.iteration_agree.specs.Cuts.{CutState}
 use Rattle.iteration_agree.specs.declared.round.Round.{Round}
 use Rattle.iteration_agree.specs.declared.round.Standing.{Standing}
 use Rattle.letter_post.specs.declared.letter.Letter.{Letter}
 use Rattle.letter_post.specs.declared.letter.Sent.{Sent}
-use Rattle.node_core.specs.Nodes.{Answer, NodeState, Outcome, node_heard, node_packed, node_ran, out_of, outcome_of}
+use Rattle.node_core.specs.Nodes.{Answer, NodeState, Outcome, node_heard, node_ran, out_of, outcome_of}
 use Rattle.node_core.specs.Rosters.{roster_of, seat_of}
 use Rattle.node_core.specs.Starts.{start_state}
 use Rattle.node_core.specs.declared.turn.Turn.{Turn}

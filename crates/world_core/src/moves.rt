@@ -194,12 +194,7 @@ fn all_level(plan: &Plan, top: u64, node: &Node, seats: &SeatStates) -> bool
 // The next iteration of its elements, where that is its top and no limit holds it: none of them would begin one before it,
 // and one would begin it.
 #[tactic(auto, using(crate::proofs::Counting::begins_at_top))]
-fn begin_due(
-    plan: &Plan,
-    node: &Node,
-    standing: Standing,
-    seats: &SeatStates,
-) -> Option<SlotMove>
+fn begin_due(plan: &Plan, node: &Node, standing: Standing, seats: &SeatStates) -> Option<SlotMove>
     requires seats { seats.now ≡ seats_of plan.now standing.top node.now }
     requires roster { node.now.roster.iterations ≡ plan.now.iterations }
     ensures { result ≡ begin_due standing (next_begin node.now) }

@@ -242,12 +242,7 @@ fn run_due(
 
 // The least element that can run.
 #[tactic(auto, using(crate::proofs::Seating::rests_is, crate::proofs::Seating::none_is, crate::proofs::Seating::some_is))]
-fn first_running(
-    plan: &Plan,
-    node: &Node,
-    top: u64,
-    seats: &mut SeatStates,
-) -> Option<ElementId>
+fn first_running(plan: &Plan, node: &Node, top: u64, seats: &mut SeatStates) -> Option<ElementId>
     requires { seats.old ≡ seats_of plan.now top node.now }
     ensures first { result ≡ first_running plan.now top node.now }
     ensures stays { seats.new ≡ seats.old }

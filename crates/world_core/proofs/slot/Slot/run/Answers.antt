@@ -1,4 +1,4 @@
-use Rattle.std.proofs.Common.{◌≡◌, ◌∙◌, ap, sym, subst, None}
+use Rattle.std.proofs.Common.{◌∙◌, ap, sym, subst}
 use Rattle.fault_script.specs.Lines.{faults_of}
 use Rattle.iteration_agree.specs.declared.round.Standing.{Standing}
 use Rattle.node_core.specs.Nodes.{Answer, node_ran, outcome_of}

@@ -1,7 +1,7 @@
 use Rattle.std.proofs.Common.{sym, subst}
 use Rattle.iteration_agree.specs.Cuts.{CutState}
 use Rattle.world_core.specs.Steps.{Renews}
-use Rattle.world_core.specs.Worlds.{SlotState, back_by, shifted, with_back}
+use Rattle.world_core.specs.Worlds.{SlotState, back_by, with_back}
 use Rattle.world_core.proofs.Slots.{shifted_has}
 use Rattle.world_core.proofs.slot.Slot.shift.Goals as goal
 

@@ -1,4 +1,4 @@
-use Rattle.std.proofs.Common.{◌≡◌, ◌∙◌, List, None, ap}
+use Rattle.std.proofs.Common.{◌∙◌, List, None, ap}
 use Rattle.fault_script.specs.Lines.{faults_of}
 use Rattle.letter_post.specs.declared.letter.Letter.{Letter}
 use Rattle.node_core.specs.Nodes.{NodeState}
