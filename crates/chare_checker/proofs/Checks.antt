@@ -2,16 +2,15 @@
 use Rattle.std.proofs.Common.{◌≡◌, ℕ, List, length, None, Some, Err, ap, sym, ◌∙◌}
 use Rattle.std.specs.Prelude.{IsTrue}
 use Rattle.chare_base.specs.Elements.{Fields}
-use Rattle.chare_syntax.specs.declared.tree.Job.{Job}
-use Rattle.chare_syntax.specs.Accepted.{is_filled, is_shallow, names_lie}
-use Rattle.chare_checker.specs.declared.fault.CheckFault.{CheckFault}
-use Rattle.chare_checker.specs.declared.fault.CheckFault.TheVariants as faults
-use Rattle.chare_checker.specs.declared.tables.JobNames.{JobNames}
-use Rattle.chare_checker.specs.Checked.{Checks, classes_found, first_fault, plan_of, rules_of}
-use Rattle.chare_checker.specs.Faults.{Found, nothing}
-use Rattle.chare_checker.specs.Planned.{planned}
-use Rattle.chare_checker.specs.Tables.{job_names}
-use Rattle.chare_checker.proofs.Sealing.{unbroken_is_sealed}
+use Rattle.job_tree.specs.declared.tree.Job.{Job}
+use Rattle.job_tree.specs.Accepted.{is_filled, is_shallow, names_lie}
+use Rattle.job_rules.specs.declared.fault.CheckFault.{CheckFault}
+use Rattle.job_rules.specs.declared.fault.CheckFault.TheVariants as faults
+use Rattle.job_rules.specs.declared.tables.JobNames.{JobNames}
+use Rattle.job_rules.specs.Checked.{Checks, UnbrokenIsSealed, classes_found, first_fault, plan_of, rules_of}
+use Rattle.job_rules.specs.Faults.{Found, nothing}
+use Rattle.job_rules.specs.Planned.{planned}
+use Rattle.job_rules.specs.Tables.{job_names}
 
 -- a fault is answered as it is
 told : (text : List ℕ) (job : Job) (f : CheckFault) → first_fault text job ≡ Some f → Checks text job (Err f)
@@ -55,5 +54,5 @@ module _ (text slice : List ℕ) (job : Job) (names : JobNames) (found : Found) 
     plan_is s is = fields_same s is
 
     -- the fields keep the rules of a plan's type, where nothing was found
-    pub kept : Seen → found ≡ nothing → fields ≡ planned slice names job → IsTrue (is_shallow 32 job) → IsTrue (names_lie (length text) job) → IsTrue (is_filled job) → IsTrue (rules_of fields)
-    kept s h is shallow named filled = ap rules_of (plan_is s is) ∙ unbroken_is_sealed text job shallow named filled (sound s h)
+    pub kept : UnbrokenIsSealed → Seen → found ≡ nothing → fields ≡ planned slice names job → IsTrue (is_shallow 32 job) → IsTrue (names_lie (length text) job) → IsTrue (is_filled job) → IsTrue (rules_of fields)
+    kept law s h is shallow named filled = ap rules_of (plan_is s is) ∙ law text job shallow named filled (sound s h)

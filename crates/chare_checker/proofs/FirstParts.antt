@@ -7,8 +7,9 @@ use Rattle.std.proofs.lemmas.Bool.{eqb-true, eqb-false, lt-ltb, le-ltb, ltb-true
 use Rattle.std.proofs.lemmas.Grind.{get_or-set_at}
 use Rattle.std.proofs.lemmas.List.{get_or-replicate, get_or-set_other, length-replicate, length-set}
 use Rattle.std.proofs.Math.Dec.{leb-suc-suc}
-use Rattle.chare_checker.specs.declared.notes.StateUse.{StateUse}
-use Rattle.chare_checker.specs.Overlap.{Tells, all_marked, counts, marked, used_in, written_by}
+use Rattle.job_rules.specs.declared.notes.StateUse.{StateUse}
+use Rattle.job_rules.specs.Overlap.{written_by}
+use Rattle.chare_checker.specs.FirstUses.{Tells, all_marked, counts, marked, used_in}
 
 or_false : (a : Bool) → a ≡ (a || false)
 or_false true = refl

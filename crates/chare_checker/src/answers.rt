@@ -1,17 +1,18 @@
 //! Answers that name no state, or no cell of an element.
 
 ghost use Rattle.std.specs.Prelude.{◌≡◌, slice_get};
-ghost use Rattle.chare_checker.specs.Answers.{answer_fault, answers_found, at_fault, below, cell_fault, coordinates_fault, element_fault, index_fault, member_meant, over_fault, state_fault};
-ghost use Rattle.chare_checker.specs.Tables.{array_number};
+ghost use Rattle.job_rules.specs.Answers.{answer_fault, answers_found, at_fault, below, cell_fault, coordinates_fault, element_fault, index_fault, over_fault, state_fault};
+ghost use Rattle.job_rules.specs.Tables.{array_number};
 
-use crate::fault::{CheckFault, fault_if, name_fault, sooner};
-use crate::names::{Meaning, bytes_at};
-use crate::tables::{JobNames, array_number};
-use chare_syntax::token::{Num, Span};
-use chare_syntax::tree::{AnswerDecl, ArrayDecl, Coordinates, Job};
+use crate::tables::{array_number, member_meaning};
+use job_rules::fault::{CheckFault, fault_if, name_fault, sooner};
+use job_rules::names::{Meaning, bytes_at};
+use job_rules::tables::JobNames;
+use job_tree::token::{Num, Span};
+use job_tree::tree::{AnswerDecl, ArrayDecl, Coordinates, Job};
 
 /// Of what was found and what is wrong with the answers of a job, the fault that is named.
-#[tactic(auto, unfolding(crate::specs::Answers::answers_found))]
+#[tactic(auto, unfolding(job_rules::specs::Answers::answers_found))]
 pub(crate) fn answers_fault(
     text: &[u8],
     names: &JobNames,
@@ -59,7 +60,7 @@ fn over_fault(text: &[u8], names: &JobNames, array: Span, state: Span) -> Option
     ensures { result ≡ over_fault text.now names.now array state (array_number text.now names.now.arrays array) }
 {
     match array_number(text, &names.arrays, array) {
-        Some(number) => state_fault(state, member_meant(text, names, number, state)),
+        Some(number) => state_fault(state, member_meaning(names, number, bytes_at(text, state))),
         None => Some(CheckFault::Unknown { at: array.at }),
     }
 }
@@ -77,7 +78,7 @@ fn at_fault(
 {
     match array_number(text, &names.arrays, array) {
         Some(number) => {
-            let meant = member_meant(text, names, number, state);
+            let meant = member_meaning(names, number, bytes_at(text, state));
             let found = sooner(
                 state_fault(state, meant),
                 element_fault(array, arrays, number, element),
@@ -85,16 +86,6 @@ fn at_fault(
             sooner(found, cell_fault(state, meant, index))
         }
         None => Some(CheckFault::Unknown { at: array.at }),
-    }
-}
-
-// What a name means among the states, entries and reductions of the array of a number.
-fn member_meant(text: &[u8], names: &JobNames, number: usize, name: Span) -> Option<Meaning>
-    ensures { result ≡ member_meant text.now names.now.tables number name }
-{
-    match names.tables.get(number) {
-        Some(table) => table.get(bytes_at(text, name)),
-        None => None,
     }
 }
 

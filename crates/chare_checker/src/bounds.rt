@@ -1,17 +1,17 @@
 //! Written numbers outside their ranges.
 
 ghost use Rattle.std.specs.Prelude.{◌≡◌};
-ghost use Rattle.chare_checker.specs.Bounds.{array_bounds, arrays_bounds, bounds_found, entry_bound, member_bound, offset_fault, outside, outside_if, size_fault, state_bound};
-ghost use Rattle.chare_checker.specs.Faults.{first_of};
+ghost use Rattle.job_rules.specs.Bounds.{array_bounds, arrays_bounds, bounds_found, entry_bound, member_bound, offset_fault, outside, outside_if, size_fault, state_bound};
+ghost use Rattle.job_rules.specs.Faults.{first_of};
 
-use crate::fault::{CheckFault, fault_if, sooner};
 use chare_base::limits;
-use chare_syntax::token::Num;
-use chare_syntax::tree::{ArrayDecl, EntryDecl, Job, MemberDecl, SignedNum, StateDecl};
+use job_rules::fault::{CheckFault, fault_if, sooner};
+use job_tree::token::Num;
+use job_tree::tree::{ArrayDecl, EntryDecl, Job, MemberDecl, SignedNum, StateDecl};
 
 /// Of what was found and the written numbers of a job that are outside their ranges, the fault that is named. Those
 /// of its answers are looked at with the answers.
-#[tactic(auto, unfolding(crate::specs::Bounds::bounds_found))]
+#[tactic(auto, unfolding(job_rules::specs::Bounds::bounds_found))]
 pub(crate) fn bounds_fault(job: &Job, found: Option<CheckFault>) -> Option<CheckFault>
     ensures { result ≡ bounds_found job.now found }
 {

@@ -2,22 +2,24 @@
 
 ghost use Rattle.std.specs.Prelude.{◌≡◌, IfOk, IsTrue};
 ghost use Rattle.chare_base.specs.Elements.{fields_of};
-ghost use Rattle.chare_checker.specs.Checked.{Checks, classes_found, rules_of};
-ghost use Rattle.chare_checker.specs.Planned.{fields_in};
+ghost use Rattle.job_rules.specs.Checked.{Checks, classes_found, rules_of};
+ghost use Rattle.chare_checker.specs.Gathered.{fields_in};
 
 use crate::answers::answers_fault;
 use crate::bounds::bounds_fault;
 use crate::declarations::declarations_fault;
-use crate::fault::CheckFault;
 use crate::limits::limits_fault;
-use crate::notes::Notes;
 use crate::planning::{PlannedJob, plan_job};
 use crate::ports::ports_fault;
 use crate::steps::walk_job;
-use crate::tables::JobNames;
+use crate::tables::names_of;
 use chare_base::memory::Memory;
 use chare_base::plan::Plan;
-use chare_syntax::tree::{Ast, Job};
+use job_rules::fault::CheckFault;
+use job_rules::laws::unbroken_is_sealed;
+use job_rules::notes::Notes;
+use job_rules::tables::JobNames;
+use job_tree::tree::{Ast, Job};
 use std::alloc::Global;
 
 /// The plan of a tree that breaks no rule, or the first rule that it breaks: of the first class that has one, at
@@ -27,8 +29,10 @@ use std::alloc::Global;
 pub fn check(alloc: Global, ast: &Ast) -> Result<Plan, CheckFault>
     ensures { Checks ast.now.text ast.now.job result }
 {
+    // So the plan of a tree that breaks no rule is sealed.
+    unbroken_is_sealed();
     let text = ast.text.as_slice();
-    let names = JobNames::of(alloc, text, &ast.job)?;
+    let names = names_of(alloc, text, &ast.job)?;
     match classes_fault(alloc, text, &names, &ast.job)? {
         Some(fault) => Err(fault),
         None => Ok(sealed(plan_job(alloc, text, &names, &ast.job)?)),
@@ -52,7 +56,7 @@ fn sealed(planned: PlannedJob) -> Plan
 }
 
 // Of all rules that a tree breaks, the one that is named.
-#[tactic(auto, unfolding(crate::specs::Checked::classes_found))]
+#[tactic(auto, unfolding(job_rules::specs::Checked::classes_found))]
 fn classes_fault(
     alloc: Global,
     text: &[u8],

@@ -1,9 +1,11 @@
 //! What steps cost.
 
 ghost use Rattle.std.specs.Prelude.{◌≡◌, ◌-ℤ◌};
-ghost use Rattle.chare_checker.specs.Costs.{block_costs, body_cost, numbers_below, parts_cost, signed_value, step_cost, stmt_cost, sum_from};
+ghost use Rattle.chare_base.specs.Costs.{numbers_below, sum_from};
+ghost use Rattle.job_rules.specs.Costs.{block_costs, body_cost, parts_cost, step_cost, stmt_cost};
 
-use chare_syntax::tree::{Block, PartDecl, SignedNum, StepBody, StepDecl, StmtDecl};
+use crate::numbers::signed64;
+use job_tree::tree::{Block, PartDecl, StepBody, StepDecl, StmtDecl};
 
 /// How many statements a step runs at most, where each loop's turns are counted and each test counts too.
 pub(crate) fn step_cost(step: &StepDecl) -> u64
@@ -50,10 +52,10 @@ fn stmt_cost(stmt: &StmtDecl) -> u64
 {
     match stmt {
         StmtDecl::Assign { .. } | StmtDecl::Send { .. } | StmtDecl::Contribute { .. } => 1,
-        StmtDecl::If { block, other, .. } => {
-            let cost = block_cost(1, block);
-            match other {
-                Some(other) => block_cost(cost, other),
+        StmtDecl::If { yes, no, .. } => {
+            let cost = block_cost(1, yes);
+            match no {
+                Some(no) => block_cost(cost, no),
                 None => cost,
             }
         }
@@ -64,7 +66,7 @@ fn stmt_cost(stmt: &StmtDecl) -> u64
             ..
         } => {
             let turn = block_cost(1, block);
-            turns(signed_value(*low), signed_value(*high))
+            turns(signed64(*low), signed64(*high))
                 .saturating_mul(turn)
                 .saturating_add(1)
         }
@@ -76,15 +78,4 @@ fn turns(low: i64, high: i64) -> u64
     ensures { result ≡ numbers_below (high -ℤ low) }
 {
     if low < high { high.abs_diff(low) } else { 0 }
-}
-
-/// A number, which may stand behind a minus.
-pub(crate) fn signed_value(signed: SignedNum) -> i64
-    ensures { result ≡ signed_value signed }
-{
-    let value = signed.number.value.min(9_223_372_036_854_775_807) as i64;
-    match signed.minus {
-        Some(_) => -value,
-        None => value,
-    }
 }

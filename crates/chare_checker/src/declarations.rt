@@ -2,19 +2,18 @@
 //! another shape.
 
 ghost use Rattle.std.specs.Prelude.{◌≡◌};
-ghost use Rattle.chare_checker.specs.Declarations.{array_declared, array_found, arrays_found, declarations_found, declared_fault, dimensions_differ, is_array, is_port, is_state, member_fault, member_meaning, members_found, port_declared, second_differs, sizes_differ, source_differs, source_fault, state_declared, states_found};
-ghost use Rattle.chare_checker.specs.Tables.{no_counts};
+ghost use Rattle.job_rules.specs.Declarations.{array_declared, array_found, arrays_found, declarations_found, declared_fault, dimensions_differ, is_array, is_port, is_state, member_fault, members_found, port_declared, second_differs, sizes_differ, source_differs, source_fault, state_declared, states_found};
+ghost use Rattle.job_rules.specs.Tables.{no_counts};
 
-use crate::fault::{CheckFault, fault_if, name_fault, sooner};
-use crate::names::{Meaning, bytes_at};
-use crate::tables::{Counts, JobNames, array_number, counts_after, counts_with};
-use chare_syntax::token::{Num, Span};
-use chare_syntax::tree::{
-    ArrayDecl, Coordinates, EntryDecl, Job, MemberDecl, SignedNum, StateDecl,
-};
+use crate::tables::{array_number, counts_after, counts_with, member_meaning};
+use job_rules::fault::{CheckFault, fault_if, name_fault, sooner};
+use job_rules::names::{Meaning, bytes_at};
+use job_rules::tables::{Counts, JobNames};
+use job_tree::token::{Num, Span};
+use job_tree::tree::{ArrayDecl, Coordinates, EntryDecl, Job, MemberDecl, SignedNum, StateDecl};
 
 /// Of what was found and what the declarations of a job break, the fault that is named.
-#[tactic(auto, unfolding(crate::specs::Declarations::declarations_found))]
+#[tactic(auto, unfolding(job_rules::specs::Declarations::declarations_found))]
 pub(crate) fn declarations_fault(
     text: &[u8],
     names: &JobNames,
@@ -25,17 +24,6 @@ pub(crate) fn declarations_fault(
 {
     let found = sooner(found, name_fault(job.name));
     arrays_fault(text, names, job.arrays.as_slice(), found)
-}
-
-/// What a name is declared as in the array of this number, if it is.
-#[tactic(auto, unfolding(crate::specs::Declarations::member_meaning))]
-pub(crate) fn member_meaning(names: &JobNames, array: usize, name: &[u8]) -> Option<Meaning>
-    ensures { result ≡ member_meaning names.now array name.now }
-{
-    match names.tables.get(array) {
-        Some(table) => table.get(name),
-        None => None,
-    }
 }
 
 fn arrays_fault(

@@ -1,33 +1,33 @@
 //! The walk over an expression.
 
 ghost use Rattle.std.specs.Prelude.{◌≡◌, OnOk, map};
-ghost use Rattle.chare_checker.specs.Notes.{in_order};
-ghost use Rattle.chare_checker.specs.Expressions.{atom_walked, conj_walked, expr_walked, here_walked, local_fault, misindexed, misplaced, name_walked, product_term_walked, product_walked, state_read, state_use, sum_term_walked, sum_walked, test_walked, unary_walked, value_named, value_walked};
+ghost use Rattle.job_rules.specs.Notes.{in_order};
+ghost use Rattle.job_rules.specs.Expressions.{atom_walked, conj_walked, expr_walked, here_walked, local_fault, misindexed, misplaced, name_walked, product_term_walked, product_walked, state_read, state_use, sum_term_walked, sum_walked, test_walked, unary_walked, value_named, value_walked};
 
-use crate::fault::{CheckFault, fault_if, name_fault};
-use crate::names::Meaning;
-use crate::notes::{Notes, StateUse};
-use crate::walk::{Scope, Site};
+use crate::walk::Scope;
 use chare_base::memory::Memory;
-use chare_syntax::token::Span;
-use chare_syntax::tree::{Atom, Conj, Expr, Here, Product, ProductTerm, Sum, SumTerm, Test, Unary};
+use job_rules::fault::{CheckFault, fault_if, name_fault};
+use job_rules::names::Meaning;
+use job_rules::notes::{Notes, StateUse};
+use job_rules::walk::Site;
+use job_tree::token::Span;
+use job_tree::tree::{Atom, Conj, Expr, Here, Product, ProductTerm, Sum, SumTerm, Test, Unary};
 
 /// Walks over an expression, whose names are those of an array's table, of a part's parameters and of the loops
 /// around it.
 ///
 /// `Memory`: an allocation was refused.
-#[tactic(auto, unfolding(crate::specs::Expressions::value_walked))]
+#[tactic(auto, unfolding(job_rules::specs::Expressions::value_walked))]
 pub(crate) fn walk_value(
     scope: &Scope,
     site: Site,
-    params: &[Span],
     loops: &[Span],
     notes: &mut Notes,
     value: &Expr,
 ) -> Result<(), Memory>
-    ensures { OnOk result (notes.new ≡ value_walked scope.now.text.now scope.now.table.now site params.now loops.now value.now notes.old) }
+    ensures { OnOk result (notes.new ≡ value_walked scope.now.text.now scope.now.table.now site scope.now.params.now loops.now value.now notes.old) }
 {
-    walk_expr(scope, site, params, loops, notes, value)?;
+    walk_expr(scope, site, loops, notes, value)?;
     Ok(())
 }
 
@@ -35,15 +35,14 @@ pub(crate) fn walk_value(
 fn walk_expr(
     scope: &Scope,
     site: Site,
-    params: &[Span],
     loops: &[Span],
     notes: &mut Notes,
     expr: &Expr,
 ) -> Result<(), Memory>
-    ensures { OnOk result (notes.new ≡ expr_walked scope.now.text.now scope.now.table.now site params.now loops.now expr.now notes.old) }
+    ensures { OnOk result (notes.new ≡ expr_walked scope.now.text.now scope.now.table.now site scope.now.params.now loops.now expr.now notes.old) }
 {
-    walk_conj(scope, site, params, loops, notes, &expr.first)?;
-    walk_conjs(scope, site, params, loops, notes, expr.others.as_slice())?;
+    walk_conj(scope, site, loops, notes, &expr.first)?;
+    walk_conjs(scope, site, loops, notes, expr.others.as_slice())?;
     Ok(())
 }
 
@@ -51,15 +50,14 @@ fn walk_expr(
 fn walk_conjs(
     scope: &Scope,
     site: Site,
-    params: &[Span],
     loops: &[Span],
     notes: &mut Notes,
     conjs: &[Conj],
 ) -> Result<(), Memory>
-    ensures { OnOk result (notes.new ≡ in_order (map (conj_walked scope.now.text.now scope.now.table.now site params.now loops.now) conjs.now) notes.old) }
+    ensures { OnOk result (notes.new ≡ in_order (map (conj_walked scope.now.text.now scope.now.table.now site scope.now.params.now loops.now) conjs.now) notes.old) }
 {
     for conj in conjs {
-        walk_conj(scope, site, params, loops, notes, conj)?;
+        walk_conj(scope, site, loops, notes, conj)?;
     }
     Ok(())
 }
@@ -68,15 +66,14 @@ fn walk_conjs(
 fn walk_conj(
     scope: &Scope,
     site: Site,
-    params: &[Span],
     loops: &[Span],
     notes: &mut Notes,
     conj: &Conj,
 ) -> Result<(), Memory>
-    ensures { OnOk result (notes.new ≡ conj_walked scope.now.text.now scope.now.table.now site params.now loops.now conj.now notes.old) }
+    ensures { OnOk result (notes.new ≡ conj_walked scope.now.text.now scope.now.table.now site scope.now.params.now loops.now conj.now notes.old) }
 {
-    walk_test(scope, site, params, loops, notes, conj.first.get())?;
-    walk_tests(scope, site, params, loops, notes, conj.others.as_slice())?;
+    walk_test(scope, site, loops, notes, conj.first.get())?;
+    walk_tests(scope, site, loops, notes, conj.others.as_slice())?;
     Ok(())
 }
 
@@ -84,15 +81,14 @@ fn walk_conj(
 fn walk_tests(
     scope: &Scope,
     site: Site,
-    params: &[Span],
     loops: &[Span],
     notes: &mut Notes,
     tests: &[Test],
 ) -> Result<(), Memory>
-    ensures { OnOk result (notes.new ≡ in_order (map (test_walked scope.now.text.now scope.now.table.now site params.now loops.now) tests.now) notes.old) }
+    ensures { OnOk result (notes.new ≡ in_order (map (test_walked scope.now.text.now scope.now.table.now site scope.now.params.now loops.now) tests.now) notes.old) }
 {
     for test in tests {
-        walk_test(scope, site, params, loops, notes, test)?;
+        walk_test(scope, site, loops, notes, test)?;
     }
     Ok(())
 }
@@ -101,19 +97,18 @@ fn walk_tests(
 fn walk_test(
     scope: &Scope,
     site: Site,
-    params: &[Span],
     loops: &[Span],
     notes: &mut Notes,
     test: &Test,
 ) -> Result<(), Memory>
-    ensures { OnOk result (notes.new ≡ test_walked scope.now.text.now scope.now.table.now site params.now loops.now test.now notes.old) }
+    ensures { OnOk result (notes.new ≡ test_walked scope.now.text.now scope.now.table.now site scope.now.params.now loops.now test.now notes.old) }
 {
     match test {
-        Test::Not { operand, .. } => walk_test(scope, site, params, loops, notes, operand.get())?,
-        Test::Alone(sum) => walk_sum(scope, site, params, loops, notes, sum)?,
+        Test::Not { operand, .. } => walk_test(scope, site, loops, notes, operand.get())?,
+        Test::Alone(sum) => walk_sum(scope, site, loops, notes, sum)?,
         Test::Compare { left, right, .. } => {
-            walk_sum(scope, site, params, loops, notes, left)?;
-            walk_sum(scope, site, params, loops, notes, right)?;
+            walk_sum(scope, site, loops, notes, left)?;
+            walk_sum(scope, site, loops, notes, right)?;
         }
     }
     Ok(())
@@ -123,15 +118,14 @@ fn walk_test(
 fn walk_sum(
     scope: &Scope,
     site: Site,
-    params: &[Span],
     loops: &[Span],
     notes: &mut Notes,
     sum: &Sum,
 ) -> Result<(), Memory>
-    ensures { OnOk result (notes.new ≡ sum_walked scope.now.text.now scope.now.table.now site params.now loops.now sum.now notes.old) }
+    ensures { OnOk result (notes.new ≡ sum_walked scope.now.text.now scope.now.table.now site scope.now.params.now loops.now sum.now notes.old) }
 {
-    walk_product(scope, site, params, loops, notes, sum.first.get())?;
-    walk_sum_terms(scope, site, params, loops, notes, sum.others.as_slice())?;
+    walk_product(scope, site, loops, notes, sum.first.get())?;
+    walk_sum_terms(scope, site, loops, notes, sum.others.as_slice())?;
     Ok(())
 }
 
@@ -139,15 +133,14 @@ fn walk_sum(
 fn walk_sum_terms(
     scope: &Scope,
     site: Site,
-    params: &[Span],
     loops: &[Span],
     notes: &mut Notes,
     sum_terms: &[SumTerm],
 ) -> Result<(), Memory>
-    ensures { OnOk result (notes.new ≡ in_order (map (sum_term_walked scope.now.text.now scope.now.table.now site params.now loops.now) sum_terms.now) notes.old) }
+    ensures { OnOk result (notes.new ≡ in_order (map (sum_term_walked scope.now.text.now scope.now.table.now site scope.now.params.now loops.now) sum_terms.now) notes.old) }
 {
     for sum_term in sum_terms {
-        walk_sum_term(scope, site, params, loops, notes, sum_term)?;
+        walk_sum_term(scope, site, loops, notes, sum_term)?;
     }
     Ok(())
 }
@@ -156,14 +149,13 @@ fn walk_sum_terms(
 fn walk_sum_term(
     scope: &Scope,
     site: Site,
-    params: &[Span],
     loops: &[Span],
     notes: &mut Notes,
     sum_term: &SumTerm,
 ) -> Result<(), Memory>
-    ensures { OnOk result (notes.new ≡ sum_term_walked scope.now.text.now scope.now.table.now site params.now loops.now sum_term.now notes.old) }
+    ensures { OnOk result (notes.new ≡ sum_term_walked scope.now.text.now scope.now.table.now site scope.now.params.now loops.now sum_term.now notes.old) }
 {
-    walk_product(scope, site, params, loops, notes, &sum_term.value)?;
+    walk_product(scope, site, loops, notes, &sum_term.value)?;
     Ok(())
 }
 
@@ -171,15 +163,14 @@ fn walk_sum_term(
 fn walk_product(
     scope: &Scope,
     site: Site,
-    params: &[Span],
     loops: &[Span],
     notes: &mut Notes,
     product: &Product,
 ) -> Result<(), Memory>
-    ensures { OnOk result (notes.new ≡ product_walked scope.now.text.now scope.now.table.now site params.now loops.now product.now notes.old) }
+    ensures { OnOk result (notes.new ≡ product_walked scope.now.text.now scope.now.table.now site scope.now.params.now loops.now product.now notes.old) }
 {
-    walk_unary(scope, site, params, loops, notes, &product.first)?;
-    walk_product_terms(scope, site, params, loops, notes, product.others.as_slice())?;
+    walk_unary(scope, site, loops, notes, &product.first)?;
+    walk_product_terms(scope, site, loops, notes, product.others.as_slice())?;
     Ok(())
 }
 
@@ -187,15 +178,14 @@ fn walk_product(
 fn walk_product_terms(
     scope: &Scope,
     site: Site,
-    params: &[Span],
     loops: &[Span],
     notes: &mut Notes,
     product_terms: &[ProductTerm],
 ) -> Result<(), Memory>
-    ensures { OnOk result (notes.new ≡ in_order (map (product_term_walked scope.now.text.now scope.now.table.now site params.now loops.now) product_terms.now) notes.old) }
+    ensures { OnOk result (notes.new ≡ in_order (map (product_term_walked scope.now.text.now scope.now.table.now site scope.now.params.now loops.now) product_terms.now) notes.old) }
 {
     for product_term in product_terms {
-        walk_product_term(scope, site, params, loops, notes, product_term)?;
+        walk_product_term(scope, site, loops, notes, product_term)?;
     }
     Ok(())
 }
@@ -204,14 +194,13 @@ fn walk_product_terms(
 fn walk_product_term(
     scope: &Scope,
     site: Site,
-    params: &[Span],
     loops: &[Span],
     notes: &mut Notes,
     product_term: &ProductTerm,
 ) -> Result<(), Memory>
-    ensures { OnOk result (notes.new ≡ product_term_walked scope.now.text.now scope.now.table.now site params.now loops.now product_term.now notes.old) }
+    ensures { OnOk result (notes.new ≡ product_term_walked scope.now.text.now scope.now.table.now site scope.now.params.now loops.now product_term.now notes.old) }
 {
-    walk_unary(scope, site, params, loops, notes, &product_term.value)?;
+    walk_unary(scope, site, loops, notes, &product_term.value)?;
     Ok(())
 }
 
@@ -219,23 +208,15 @@ fn walk_product_term(
 fn walk_unary(
     scope: &Scope,
     site: Site,
-    params: &[Span],
     loops: &[Span],
     notes: &mut Notes,
     unary: &Unary,
 ) -> Result<(), Memory>
-    ensures { OnOk result (notes.new ≡ unary_walked scope.now.text.now scope.now.table.now site params.now loops.now unary.now notes.old) }
+    ensures { OnOk result (notes.new ≡ unary_walked scope.now.text.now scope.now.table.now site scope.now.params.now loops.now unary.now notes.old) }
 {
     match unary {
-        Unary::Minus { operand, .. } => walk_unary(
-            scope,
-            site,
-            params,
-            loops,
-            notes,
-            operand.get(),
-        )?,
-        Unary::Atom(atom) => walk_atom(scope, site, params, loops, notes, atom)?,
+        Unary::Minus { operand, .. } => walk_unary(scope, site, loops, notes, operand.get())?,
+        Unary::Atom(atom) => walk_atom(scope, site, loops, notes, atom)?,
     }
     Ok(())
 }
@@ -244,44 +225,42 @@ fn walk_unary(
 fn walk_atom(
     scope: &Scope,
     site: Site,
-    params: &[Span],
     loops: &[Span],
     notes: &mut Notes,
     atom: &Atom,
 ) -> Result<(), Memory>
-    ensures { OnOk result (notes.new ≡ atom_walked scope.now.text.now scope.now.table.now site params.now loops.now atom.now notes.old) }
+    ensures { OnOk result (notes.new ≡ atom_walked scope.now.text.now scope.now.table.now site scope.now.params.now loops.now atom.now notes.old) }
 {
     match atom {
         Atom::Number(_) => {}
-        Atom::Name(name) => walk_name(scope, site, params, loops, notes, *name, false)?,
+        Atom::Name(name) => walk_name(scope, site, loops, notes, *name, false)?,
         Atom::Cell { name, index } => {
-            walk_name(scope, site, params, loops, notes, *name, true)?;
-            walk_expr(scope, site, params, loops, notes, index.get())?;
+            walk_name(scope, site, loops, notes, *name, true)?;
+            walk_expr(scope, site, loops, notes, index.get())?;
         }
         Atom::Here { at, word } => walk_here(site, *at, *word, notes),
         Atom::Choice { first, second, .. } => {
-            walk_expr(scope, site, params, loops, notes, first.get())?;
-            walk_expr(scope, site, params, loops, notes, second.get())?;
+            walk_expr(scope, site, loops, notes, first.get())?;
+            walk_expr(scope, site, loops, notes, second.get())?;
         }
-        Atom::Group { inner, .. } => walk_expr(scope, site, params, loops, notes, inner.get())?,
+        Atom::Group { inner, .. } => walk_expr(scope, site, loops, notes, inner.get())?,
     }
     Ok(())
 }
 
-#[tactic(auto, unfolding(crate::specs::Expressions::name_walked))]
+#[tactic(auto, unfolding(job_rules::specs::Expressions::name_walked))]
 fn walk_name(
     scope: &Scope,
     site: Site,
-    params: &[Span],
     loops: &[Span],
     notes: &mut Notes,
     name: Span,
     indexed: bool,
 ) -> Result<(), Memory>
-    ensures { OnOk result (notes.new ≡ name_walked scope.now.text.now scope.now.table.now site params.now loops.now name indexed notes.old) }
+    ensures { OnOk result (notes.new ≡ name_walked scope.now.text.now scope.now.table.now site scope.now.params.now loops.now name indexed notes.old) }
 {
     let meaning = scope.meaning(name);
-    let local = scope.is_local(params, loops, name);
+    let local = scope.is_local(loops, name);
     notes.note(name_fault(name));
     read_name(site, meaning, local, name, indexed, notes)?;
     Ok(())
@@ -367,7 +346,7 @@ fn local_fault(local: bool, name: Span, indexed: bool) -> Option<CheckFault>
     }
 }
 
-#[tactic(auto, unfolding(crate::specs::Expressions::here_walked))]
+#[tactic(auto, unfolding(job_rules::specs::Expressions::here_walked))]
 fn walk_here(site: Site, at: u32, word: Here, notes: &mut Notes)
     ensures { notes.new ≡ here_walked site at word notes.old }
 {

@@ -1,11 +1,12 @@
 //! From the tree of a job's text to its plan, or to the first rule of the language that it breaks.
 //!
-//! Each class of rules is a function from a tree to the fault at the least place that breaks it; of all faults the
-//! one of the first class is named. Names are looked up in tables (`tables`), which keep the first declaration of
-//! each. A walk over the tree (`walk`) notes faults, uses of states, sends and receipts in text order; the other
-//! classes go by what it noted, or by the declarations. `planning` makes the plan of any tree; that of a tree which
-//! breaks no rule is the job's.
+//! What the rules are, and which plan a tree has, is defined in `job_rules`, whose modules `fault` and `laws` this crate
+//! gives on. Each class of rules has a function here; names are looked up in tables (`tables`), a walk over the tree
+//! (`walk`, `steps`, `statements`, `expressions`) notes what the other classes go by, and `planning` makes the plan of
+//! any tree. That of a tree which breaks no rule is the job's.
 #![tactic(auto)]
+
+pub use job_rules::{fault, laws};
 
 mod answers;
 mod bounds;
@@ -13,11 +14,8 @@ pub mod check;
 mod costs;
 mod declarations;
 mod expressions;
-pub mod fault;
-pub mod laws;
 mod limits;
-mod names;
-mod notes;
+mod numbers;
 mod overlap;
 mod planning;
 mod ports;

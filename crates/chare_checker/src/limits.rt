@@ -2,20 +2,20 @@
 //! which is the order in which they are named.
 
 ghost use Rattle.std.specs.Prelude.{◌≡◌};
-ghost use Rattle.chare_checker.specs.Limits.{answered_at, answer_over, answers_over, array_over, arrays_over, body_over, elements_written, limits_found, members_over, over, own_over, parts_over, state_over, states_over, step_over, steps_over, with_all_cells, with_cells};
+ghost use Rattle.job_rules.specs.Limits.{answered_at, answer_over, answers_over, array_over, arrays_over, body_over, elements_written, limits_found, members_over, over, own_over, parts_over, state_over, states_over, step_over, steps_over, with_all_cells, with_cells};
 
 use crate::costs::step_cost;
-use crate::fault::{CheckFault, LimitKind, fault_if, sooner};
 use crate::ports::declared_at;
 use crate::tables::cells_written;
 use chare_base::limits;
-use chare_syntax::tree::{
+use job_rules::fault::{CheckFault, LimitKind, fault_if, sooner};
+use job_tree::tree::{
     AnswerDecl, ArrayDecl, Coordinates, Job, MemberDecl, PartDecl, StateDecl, StepBody, StepDecl,
 };
 
 /// Of what was found and the counts of a job that are too great, the fault that is named. The lengths of names are
 /// looked at where the names are.
-#[tactic(auto, unfolding(crate::specs::Limits::limits_found))]
+#[tactic(auto, unfolding(job_rules::specs::Limits::limits_found))]
 pub(crate) fn limits_fault(job: &Job, found: Option<CheckFault>) -> Option<CheckFault>
     ensures { result ≡ limits_found job.now found }
 {
@@ -46,7 +46,7 @@ fn arrays_over(arrays: &[ArrayDecl], found: Option<CheckFault>) -> Option<CheckF
 
 // The counts at an array, with which there are so many arrays of so many elements, and before which all elements
 // have so many cells.
-#[tactic(auto, unfolding(crate::specs::Limits::array_over))]
+#[tactic(auto, unfolding(job_rules::specs::Limits::array_over))]
 fn array_over(
     count: u64,
     elements: u64,
@@ -103,7 +103,7 @@ fn states_over(
 }
 
 // The counts at a state, with which there are so many states and so many cells of an element and of all.
-#[tactic(auto, unfolding(crate::specs::Limits::state_over))]
+#[tactic(auto, unfolding(job_rules::specs::Limits::state_over))]
 fn state_over(
     count: u64,
     cells: u64,
@@ -166,7 +166,7 @@ fn steps_over(steps: &[StepDecl], found: Option<CheckFault>) -> Option<CheckFaul
 }
 
 // The counts at a step, with which there are so many steps.
-#[tactic(auto, unfolding(crate::specs::Limits::step_over))]
+#[tactic(auto, unfolding(job_rules::specs::Limits::step_over))]
 fn step_over(count: u64, step: &StepDecl, found: Option<CheckFault>) -> Option<CheckFault>
     ensures { result ≡ step_over count found step.now }
 {
@@ -213,7 +213,7 @@ fn answers_over(answers: &[AnswerDecl], found: Option<CheckFault>) -> Option<Che
     found
 }
 
-#[tactic(auto, unfolding(crate::specs::Limits::answer_over))]
+#[tactic(auto, unfolding(job_rules::specs::Limits::answer_over))]
 fn answer_over(count: u64, answer: AnswerDecl, found: Option<CheckFault>) -> Option<CheckFault>
     ensures { result ≡ answer_over count found answer }
 {

@@ -5,10 +5,11 @@
 
 ghost use Rattle.std.specs.Prelude.{◌≡◌, true, false, length};
 ghost use Rattle.std.specs.List.{list_any};
-ghost use Rattle.chare_checker.specs.Overlap.{Tells, all_marked, clashes, counts, marked, overlap_found, use_fault, used_before, written_by};
+ghost use Rattle.job_rules.specs.Overlap.{clashes, overlap_found, use_fault, used_before, written_by};
+ghost use Rattle.chare_checker.specs.FirstUses.{Tells, all_marked, counts, marked};
 
-use crate::fault::{CheckFault, fault_if, sooner};
-use crate::notes::StateUse;
+use job_rules::fault::{CheckFault, fault_if, sooner};
+use job_rules::notes::StateUse;
 
 // How many uses are few.
 const FEW: usize = 64;
@@ -70,7 +71,7 @@ fn counts(state_use: StateUse, writes: bool) -> bool
     !writes || state_use.written
 }
 
-#[tactic(auto, unfolding(crate::specs::Overlap::overlap_found))]
+#[tactic(auto, unfolding(job_rules::specs::Overlap::overlap_found))]
 fn faults(
     uses: &[StateUse],
     used: &[usize],

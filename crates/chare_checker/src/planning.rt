@@ -1,17 +1,18 @@
 //! The plan of a job's tree. It is total: where the tree breaks a rule, the plan breaks one too, and no number wraps.
 
 ghost use Rattle.std.specs.Prelude.{◌≡◌, IfOk};
-ghost use Rattle.chare_checker.specs.Planned.{fields_in, planned};
+ghost use Rattle.job_rules.specs.Planned.{planned};
+ghost use Rattle.chare_checker.specs.Gathered.{fields_in};
 
-use crate::names::bytes_at;
 use crate::planning::answers::plan_answers;
 use crate::planning::arrays::plan_arrays;
 use crate::planning::members::{plan_entries, plan_reductions};
-use crate::tables::JobNames;
 use chare_base::bytes::Name;
 use chare_base::memory::Memory;
 use chare_base::plan::{Answer, Array, Entry, Reduction};
-use chare_syntax::tree::Job;
+use job_rules::names::bytes_at;
+use job_rules::tables::JobNames;
+use job_tree::tree::Job;
 use sqlite_items::Items;
 use std::alloc::Global;
 
@@ -20,7 +21,6 @@ mod arrays;
 mod expressions;
 mod lookups;
 mod members;
-mod numbers;
 mod statements;
 mod steps;
 
@@ -38,7 +38,7 @@ pub struct PlannedJob {
 /// The plan of a job, whose names are these.
 ///
 /// `Memory`: an allocation was refused.
-#[tactic(auto, unfolding(crate::specs::Planned::planned))]
+#[tactic(auto, unfolding(job_rules::specs::Planned::planned))]
 pub(crate) fn plan_job(
     alloc: Global,
     text: &[u8],

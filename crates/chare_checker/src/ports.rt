@@ -1,18 +1,19 @@
 //! Entries and reductions that aren't sent to once, at top level, and received from once, in a later step.
 
 ghost use Rattle.std.specs.Prelude.{◌≡◌, slice_get};
-ghost use Rattle.chare_checker.specs.Faults.{first_of};
-ghost use Rattle.chare_checker.specs.Ports.{arrays_found, declared_at, early_fault, extra_fault, members_found, nested_fault, once_fault, port_fault, ports_found, too_few, too_many, uses_of};
-ghost use Rattle.chare_checker.specs.Tables.{no_counts};
+ghost use Rattle.job_rules.specs.Faults.{first_of};
+ghost use Rattle.job_rules.specs.Ports.{arrays_found, declared_at, early_fault, extra_fault, members_found, nested_fault, once_fault, port_fault, ports_found, too_few, too_many, uses_of};
+ghost use Rattle.job_rules.specs.Tables.{no_counts};
 
-use crate::fault::{CheckFault, fault_if, sooner};
-use crate::notes::{Notes, PortUse};
-use crate::tables::{Counts, counts_after};
-use chare_syntax::tree::{ArrayDecl, Job, MemberDecl};
+use crate::tables::counts_after;
+use job_rules::fault::{CheckFault, fault_if, sooner};
+use job_rules::notes::{Notes, PortUse};
+use job_rules::tables::Counts;
+use job_tree::tree::{ArrayDecl, Job, MemberDecl};
 
 /// Of what was found and what is wrong with the ports of a job, the fault that is named. The notes have all its
 /// sends, contributions and receipts.
-#[tactic(auto, unfolding(crate::specs::Ports::ports_found))]
+#[tactic(auto, unfolding(job_rules::specs::Ports::ports_found))]
 pub(crate) fn ports_fault(job: &Job, notes: &Notes, found: Option<CheckFault>) -> Option<CheckFault>
     ensures { result ≡ ports_found job.now notes.now.sent notes.now.received found }
 {

@@ -2,18 +2,19 @@
 
 ghost use Rattle.std.specs.Prelude.{◌≡◌, OnOk, map, true};
 ghost use Rattle.std.specs.Option.{option_map};
-ghost use Rattle.chare_checker.specs.Notes.{in_order};
-ghost use Rattle.chare_checker.specs.Statements.{assign_walked, block_walked, contribute_walked, count_values, each_walked, entry_named, for_walked, index_walked, is_number, loop_walked, meant_in, member_named, mismatch_fault, operand_walked, other_walked, port_use, reduction_named, send_walked, stmt_walked, target_named, target_walked, unwritable, values_walked};
+ghost use Rattle.job_rules.specs.Notes.{in_order};
+ghost use Rattle.job_rules.specs.Statements.{assign_walked, block_walked, contribute_walked, count_values, each_walked, entry_named, for_walked, index_walked, is_number, loop_walked, member_named, mismatch_fault, operand_walked, other_walked, port_use, reduction_named, send_walked, stmt_walked, target_named, target_walked, unwritable, values_walked};
 
 use crate::expressions::{misindexed, state_use, walk_value};
-use crate::fault::{CheckFault, fault_if, name_fault};
-use crate::names::{Meaning, bytes_at};
-use crate::notes::{Notes, PortUse};
-use crate::tables::{JobNames, array_number};
-use crate::walk::{PartAt, Scope, Site};
+use crate::tables::{array_number, meant_in};
+use crate::walk::Scope;
 use chare_base::memory::Memory;
-use chare_syntax::token::Span;
-use chare_syntax::tree::{Block, Expr, StmtDecl, Values};
+use job_rules::fault::{CheckFault, fault_if, name_fault};
+use job_rules::names::{Meaning, bytes_at};
+use job_rules::notes::{Notes, PortUse};
+use job_rules::walk::{PartAt, Site};
+use job_tree::token::Span;
+use job_tree::tree::{Block, Expr, StmtDecl, Values};
 
 /// Walks over a block, whose names are those of the job, of an array's table, of a part's parameters and of the
 /// loops around it. A block of a loop or an `if` is nested.
@@ -23,19 +24,17 @@ use chare_syntax::tree::{Block, Expr, StmtDecl, Values};
 pub(crate) fn walk_block(
     scope: &Scope,
     part: PartAt,
-    params: &[Span],
     loops: &mut Vec<Span>,
     nested: bool,
     notes: &mut Notes,
     block: &Block,
 ) -> Result<(), Memory>
-    ensures exact { OnOk result (notes.new ≡ block_walked scope.now.text.now scope.now.names.now scope.now.table.now part params.now block.now loops.old.items nested notes.old) }
+    ensures exact { OnOk result (notes.new ≡ block_walked scope.now.text.now scope.now.names.now scope.now.table.now part scope.now.params.now block.now loops.old.items nested notes.old) }
     ensures loops { OnOk result (loops.new.items ≡ loops.old.items) }
 {
     walk_stmts(
         scope,
         part,
-        params,
         loops,
         nested,
         notes,
@@ -48,17 +47,16 @@ pub(crate) fn walk_block(
 fn walk_stmts(
     scope: &Scope,
     part: PartAt,
-    params: &[Span],
     loops: &mut Vec<Span>,
     nested: bool,
     notes: &mut Notes,
     stmts: &[StmtDecl],
 ) -> Result<(), Memory>
-    ensures exact { OnOk result (notes.new ≡ each_walked (map (stmt_walked scope.now.text.now scope.now.names.now scope.now.table.now part params.now) stmts.now) loops.old.items nested notes.old) }
+    ensures exact { OnOk result (notes.new ≡ each_walked (map (stmt_walked scope.now.text.now scope.now.names.now scope.now.table.now part scope.now.params.now) stmts.now) loops.old.items nested notes.old) }
     ensures loops { OnOk result (loops.new.items ≡ loops.old.items) }
 {
     for stmt in stmts {
-        walk_stmt(scope, part, params, loops, nested, notes, stmt)?;
+        walk_stmt(scope, part, loops, nested, notes, stmt)?;
     }
     Ok(())
 }
@@ -67,13 +65,12 @@ fn walk_stmts(
 fn walk_stmt(
     scope: &Scope,
     part: PartAt,
-    params: &[Span],
     loops: &mut Vec<Span>,
     nested: bool,
     notes: &mut Notes,
     stmt: &StmtDecl,
 ) -> Result<(), Memory>
-    ensures exact { OnOk result (notes.new ≡ stmt_walked scope.now.text.now scope.now.names.now scope.now.table.now part params.now stmt.now loops.old.items nested notes.old) }
+    ensures exact { OnOk result (notes.new ≡ stmt_walked scope.now.text.now scope.now.names.now scope.now.table.now part scope.now.params.now stmt.now loops.old.items nested notes.old) }
     ensures loops { OnOk result (loops.new.items ≡ loops.old.items) }
 {
     match stmt {
@@ -81,30 +78,23 @@ fn walk_stmt(
             target,
             index,
             value,
-        } => walk_assign(scope, part, params, loops, notes, *target, index, value)?,
-        StmtDecl::If {
-            test,
-            block,
-            other,
-            ..
-        } => {
-            walk_operand(scope, part, params, loops, notes, test)?;
-            walk_block(scope, part, params, loops, true, notes, block)?;
-            walk_other(scope, part, params, loops, notes, other)?;
+        } => walk_assign(scope, part, loops, notes, *target, index, value)?,
+        StmtDecl::If { test, yes, no, .. } => {
+            walk_operand(scope, part, loops, notes, test)?;
+            walk_block(scope, part, loops, true, notes, yes)?;
+            walk_other(scope, part, loops, notes, no)?;
         }
-        StmtDecl::For { name, block, .. } => {
-            walk_for(scope, part, params, loops, notes, *name, block)?;
-        }
+        StmtDecl::For { name, block, .. } => walk_for(scope, part, loops, notes, *name, block)?,
         StmtDecl::Send {
             at,
             array,
             entry,
             values,
         } => walk_send(
-            scope, part, params, loops, nested, notes, *at, *array, *entry, values,
+            scope, part, loops, nested, notes, *at, *array, *entry, values,
         )?,
         StmtDecl::Contribute { at, name, value } => {
-            walk_contribute(scope, part, params, loops, nested, notes, *at, *name, value)?;
+            walk_contribute(scope, part, loops, nested, notes, *at, *name, value)?;
         }
     }
     Ok(())
@@ -114,18 +104,17 @@ fn walk_stmt(
 fn walk_for(
     scope: &Scope,
     part: PartAt,
-    params: &[Span],
     loops: &mut Vec<Span>,
     notes: &mut Notes,
     name: Span,
     block: &Block,
 ) -> Result<(), Memory>
-    ensures exact { OnOk result (notes.new ≡ for_walked (loop_walked scope.now.text.now scope.now.table.now params.now loops.old.items name) name (block_walked scope.now.text.now scope.now.names.now scope.now.table.now part params.now block.now) loops.old.items notes.old) }
+    ensures exact { OnOk result (notes.new ≡ for_walked (loop_walked scope.now.text.now scope.now.table.now scope.now.params.now loops.old.items name) name (block_walked scope.now.text.now scope.now.names.now scope.now.table.now part scope.now.params.now block.now) loops.old.items notes.old) }
     ensures loops { OnOk result (loops.new.items ≡ loops.old.items) }
 {
-    walk_loop(scope, params, loops, notes, name);
+    walk_loop(scope, loops, notes, name);
     loops.push(name)?;
-    walk_block(scope, part, params, loops, true, notes, block)?;
+    walk_block(scope, part, loops, true, notes, block)?;
     loops.pop();
     Ok(())
 }
@@ -133,26 +122,17 @@ fn walk_for(
 fn walk_assign(
     scope: &Scope,
     part: PartAt,
-    params: &[Span],
     loops: &[Span],
     notes: &mut Notes,
     target: Span,
     index: &Option<Expr>,
     value: &Expr,
 ) -> Result<(), Memory>
-    ensures { OnOk result (notes.new ≡ assign_walked scope.now.text.now scope.now.table.now part params.now loops.now target index.now value.now notes.old) }
+    ensures { OnOk result (notes.new ≡ assign_walked scope.now.text.now scope.now.table.now part scope.now.params.now loops.now target index.now value.now notes.old) }
 {
-    walk_target(
-        scope,
-        part.part,
-        params,
-        loops,
-        notes,
-        target,
-        index.is_some(),
-    )?;
-    walk_index(scope, part, params, loops, notes, index)?;
-    walk_operand(scope, part, params, loops, notes, value)?;
+    walk_target(scope, part.part, loops, notes, target, index.is_some())?;
+    walk_index(scope, part, loops, notes, index)?;
+    walk_operand(scope, part, loops, notes, value)?;
     Ok(())
 }
 
@@ -161,16 +141,15 @@ fn walk_assign(
 fn walk_other(
     scope: &Scope,
     part: PartAt,
-    params: &[Span],
     loops: &mut Vec<Span>,
     notes: &mut Notes,
     other: &Option<Block>,
 ) -> Result<(), Memory>
-    ensures exact { OnOk result (notes.new ≡ other_walked (option_map (block_walked scope.now.text.now scope.now.names.now scope.now.table.now part params.now) other.now) loops.old.items true notes.old) }
+    ensures exact { OnOk result (notes.new ≡ other_walked (option_map (block_walked scope.now.text.now scope.now.names.now scope.now.table.now part scope.now.params.now) other.now) loops.old.items true notes.old) }
     ensures loops { OnOk result (loops.new.items ≡ loops.old.items) }
 {
     match other {
-        Some(block) => walk_block(scope, part, params, loops, true, notes, block)?,
+        Some(block) => walk_block(scope, part, loops, true, notes, block)?,
         None => {}
     }
     Ok(())
@@ -179,30 +158,28 @@ fn walk_other(
 fn walk_operand(
     scope: &Scope,
     part: PartAt,
-    params: &[Span],
     loops: &[Span],
     notes: &mut Notes,
     value: &Expr,
 ) -> Result<(), Memory>
-    ensures { OnOk result (notes.new ≡ operand_walked scope.now.text.now scope.now.table.now part params.now loops.now value.now notes.old) }
+    ensures { OnOk result (notes.new ≡ operand_walked scope.now.text.now scope.now.table.now part scope.now.params.now loops.now value.now notes.old) }
 {
     let site = Site::Part { number: part.part };
-    walk_value(scope, site, params, loops, notes, value)?;
+    walk_value(scope, site, loops, notes, value)?;
     Ok(())
 }
 
 fn walk_index(
     scope: &Scope,
     part: PartAt,
-    params: &[Span],
     loops: &[Span],
     notes: &mut Notes,
     index: &Option<Expr>,
 ) -> Result<(), Memory>
-    ensures { OnOk result (notes.new ≡ index_walked scope.now.text.now scope.now.table.now part params.now loops.now index.now notes.old) }
+    ensures { OnOk result (notes.new ≡ index_walked scope.now.text.now scope.now.table.now part scope.now.params.now loops.now index.now notes.old) }
 {
     match index {
-        Some(index) => walk_operand(scope, part, params, loops, notes, index)?,
+        Some(index) => walk_operand(scope, part, loops, notes, index)?,
         None => {}
     }
     Ok(())
@@ -211,7 +188,6 @@ fn walk_index(
 fn walk_send(
     scope: &Scope,
     part: PartAt,
-    params: &[Span],
     loops: &[Span],
     nested: bool,
     notes: &mut Notes,
@@ -220,18 +196,17 @@ fn walk_send(
     entry: Span,
     values: &Values,
 ) -> Result<(), Memory>
-    ensures { OnOk result (notes.new ≡ values_walked scope.now.text.now scope.now.table.now part params.now loops.now values.now (send_walked scope.now.text.now scope.now.names.now part at nested (count_values values.now) array entry notes.old)) }
+    ensures { OnOk result (notes.new ≡ values_walked scope.now.text.now scope.now.table.now part scope.now.params.now loops.now values.now (send_walked scope.now.text.now scope.now.names.now part at nested (count_values values.now) array entry notes.old)) }
 {
     let count = count_values(values);
     note_send(scope, part, at, nested, count, array, entry, notes)?;
-    walk_values(scope, part, params, loops, notes, values)?;
+    walk_values(scope, part, loops, notes, values)?;
     Ok(())
 }
 
 fn walk_contribute(
     scope: &Scope,
     part: PartAt,
-    params: &[Span],
     loops: &[Span],
     nested: bool,
     notes: &mut Notes,
@@ -239,40 +214,38 @@ fn walk_contribute(
     name: Span,
     value: &Expr,
 ) -> Result<(), Memory>
-    ensures { OnOk result (notes.new ≡ operand_walked scope.now.text.now scope.now.table.now part params.now loops.now value.now (contribute_walked scope.now.text.now scope.now.table.now part at nested name notes.old)) }
+    ensures { OnOk result (notes.new ≡ operand_walked scope.now.text.now scope.now.table.now part scope.now.params.now loops.now value.now (contribute_walked scope.now.text.now scope.now.table.now part at nested name notes.old)) }
 {
     note_contribution(scope, part, at, nested, name, notes)?;
-    walk_operand(scope, part, params, loops, notes, value)?;
+    walk_operand(scope, part, loops, notes, value)?;
     Ok(())
 }
 
 fn walk_values(
     scope: &Scope,
     part: PartAt,
-    params: &[Span],
     loops: &[Span],
     notes: &mut Notes,
     values: &Values,
 ) -> Result<(), Memory>
-    ensures { OnOk result (notes.new ≡ values_walked scope.now.text.now scope.now.table.now part params.now loops.now values.now notes.old) }
+    ensures { OnOk result (notes.new ≡ values_walked scope.now.text.now scope.now.table.now part scope.now.params.now loops.now values.now notes.old) }
 {
-    walk_operand(scope, part, params, loops, notes, &values.first)?;
-    walk_operands(scope, part, params, loops, notes, values.others.as_slice())?;
+    walk_operand(scope, part, loops, notes, &values.first)?;
+    walk_operands(scope, part, loops, notes, values.others.as_slice())?;
     Ok(())
 }
 
 fn walk_operands(
     scope: &Scope,
     part: PartAt,
-    params: &[Span],
     loops: &[Span],
     notes: &mut Notes,
     values: &[Expr],
 ) -> Result<(), Memory>
-    ensures { OnOk result (notes.new ≡ in_order (map (operand_walked scope.now.text.now scope.now.table.now part params.now loops.now) values.now) notes.old) }
+    ensures { OnOk result (notes.new ≡ in_order (map (operand_walked scope.now.text.now scope.now.table.now part scope.now.params.now loops.now) values.now) notes.old) }
 {
     for value in values {
-        walk_operand(scope, part, params, loops, notes, value)?;
+        walk_operand(scope, part, loops, notes, value)?;
     }
     Ok(())
 }
@@ -284,20 +257,19 @@ fn count_values(values: &Values) -> usize
     others.len() + 1
 }
 
-#[tactic(auto, unfolding(crate::specs::Statements::target_walked))]
+#[tactic(auto, unfolding(job_rules::specs::Statements::target_walked))]
 fn walk_target(
     scope: &Scope,
     part: usize,
-    params: &[Span],
     loops: &[Span],
     notes: &mut Notes,
     name: Span,
     indexed: bool,
 ) -> Result<(), Memory>
-    ensures { OnOk result (notes.new ≡ target_walked scope.now.text.now scope.now.table.now part params.now loops.now name indexed notes.old) }
+    ensures { OnOk result (notes.new ≡ target_walked scope.now.text.now scope.now.table.now part scope.now.params.now loops.now name indexed notes.old) }
 {
     let meaning = scope.meaning(name);
-    let local = scope.is_local(params, loops, name);
+    let local = scope.is_local(loops, name);
     notes.note(name_fault(name));
     write_name(part, meaning, local, name, indexed, notes)?;
     Ok(())
@@ -344,16 +316,16 @@ fn unwritable(local: bool, name: Span) -> Option<CheckFault>
     }
 }
 
-#[tactic(auto, unfolding(crate::specs::Statements::loop_walked))]
-fn walk_loop(scope: &Scope, params: &[Span], loops: &[Span], notes: &mut Notes, name: Span)
-    ensures { notes.new ≡ loop_walked scope.now.text.now scope.now.table.now params.now loops.now name notes.old }
+#[tactic(auto, unfolding(job_rules::specs::Statements::loop_walked))]
+fn walk_loop(scope: &Scope, loops: &[Span], notes: &mut Notes, name: Span)
+    ensures { notes.new ≡ loop_walked scope.now.text.now scope.now.table.now scope.now.params.now loops.now name notes.old }
 {
-    let taken = scope.meaning(name).is_some() || scope.is_local(params, loops, name);
+    let taken = scope.meaning(name).is_some() || scope.is_local(loops, name);
     notes.note(name_fault(name));
     notes.note(fault_if(taken, CheckFault::Twice { at: name.at }));
 }
 
-#[tactic(auto, unfolding(crate::specs::Statements::send_walked))]
+#[tactic(auto, unfolding(job_rules::specs::Statements::send_walked))]
 fn note_send(
     scope: &Scope,
     part: PartAt,
@@ -374,20 +346,6 @@ fn note_send(
         part, at, nested, count, number, meaning, array, entry, notes,
     )?;
     Ok(())
-}
-
-// What a name means in the array of this number.
-#[tactic(auto, unfolding(crate::specs::Names::lookup))]
-fn meant_in(names: &JobNames, number: Option<usize>, name: &[u8]) -> Option<Meaning>
-    ensures { result ≡ meant_in names.now number name.now }
-{
-    match number {
-        Some(number) => match names.tables.get(number) {
-            Some(table) => table.get(name),
-            None => None,
-        },
-        None => None,
-    }
 }
 
 // A send to an entry of the array of this number, if there is one.
@@ -441,7 +399,7 @@ fn send_to_entry(
     Ok(())
 }
 
-#[tactic(auto, unfolding(crate::specs::Statements::contribute_walked))]
+#[tactic(auto, unfolding(job_rules::specs::Statements::contribute_walked))]
 fn note_contribution(
     scope: &Scope,
     part: PartAt,

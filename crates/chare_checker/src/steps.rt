@@ -1,26 +1,27 @@
 //! The walk over the initial values and the steps of a job, in text order.
 
 ghost use Rattle.std.specs.Prelude.{◌≡◌, ◌∷◌, IfOk, OnOk};
-ghost use Rattle.chare_checker.specs.Steps.{array_walked, array_with, arrays_walked, body_walked, free_part, job_walked, names_listed, param_walked, params_walked, part_at, part_walked, part_with, parts_walked, port_named, start_walked, starts_walked, step_closed, step_walked, steps_walked, when_walked};
+ghost use Rattle.job_rules.specs.Steps.{array_walked, array_with, arrays_walked, body_walked, free_part, job_walked, param_walked, params_walked, part_at, part_walked, part_with, parts_walked, port_named, start_walked, starts_walked, step_closed, step_walked, steps_walked, when_walked};
 
 use crate::expressions::walk_value;
-use crate::fault::{CheckFault, fault_if, name_fault};
-use crate::names::{Meaning, Names, local_named};
-use crate::notes::Notes;
 use crate::overlap::overlap_fault;
 use crate::statements::{is_number, mismatch_fault, port_use, walk_block};
-use crate::tables::JobNames;
-use crate::walk::{PartAt, Scope, Site};
+use crate::walk::Scope;
 use chare_base::memory::Memory;
-use chare_syntax::token::Span;
-use chare_syntax::tree::{self, ArrayDecl, Block, Job, PartDecl, StateDecl, StepBody, StepDecl};
+use job_rules::fault::{CheckFault, fault_if, name_fault};
+use job_rules::names::{Meaning, Names, local_named, names_listed};
+use job_rules::notes::Notes;
+use job_rules::tables::JobNames;
+use job_rules::walk::{PartAt, Site};
+use job_tree::token::Span;
+use job_tree::tree::{ArrayDecl, Block, Job, PartDecl, StateDecl, StepBody, StepDecl};
 use sqlite_items::Items;
 use std::alloc::Global;
 
 /// Walks over a job, whose names are these.
 ///
 /// `Memory`: an allocation was refused.
-#[tactic(auto, unfolding(crate::specs::Steps::job_walked))]
+#[tactic(auto, unfolding(job_rules::specs::Steps::job_walked))]
 pub(crate) fn walk_job(
     alloc: Global,
     text: &[u8],
@@ -61,7 +62,12 @@ fn walk_array(
 {
     match names.tables.get(number) {
         Some(table) => {
-            let scope = Scope { text, names, table };
+            let scope = Scope {
+                text,
+                names,
+                table,
+                params: &[],
+            };
             walk_with(alloc, &scope, number, array, notes)?;
         }
         None => {
@@ -70,6 +76,7 @@ fn walk_array(
                 text,
                 names,
                 table: &none,
+                params: &[],
             };
             walk_with(alloc, &scope, number, array, notes)?;
         }
@@ -107,7 +114,13 @@ fn walk_start(scope: &Scope, state: &StateDecl, notes: &mut Notes) -> Result<(),
     let site = Site::Start {
         sized: state.cells.is_some(),
     };
-    walk_value(scope, site, &[], &[], notes, &state.start)?;
+    let scope = Scope {
+        text: scope.text,
+        names: scope.names,
+        table: scope.table,
+        params: &[],
+    };
+    walk_value(&scope, site, &[], notes, &state.start)?;
     Ok(())
 }
 
@@ -142,7 +155,7 @@ fn walk_step(
 }
 
 // Parts that clash are known at the end of their step.
-#[tactic(auto, unfolding(crate::specs::Steps::step_closed))]
+#[tactic(auto, unfolding(job_rules::specs::Steps::step_closed))]
 fn close_step(alloc: Global, notes: &mut Notes)
     ensures { notes.new ≡ step_closed notes.old }
 {
@@ -200,8 +213,14 @@ fn walk_free_part(
 ) -> Result<(), Memory>
     ensures { OnOk result (notes.new ≡ free_part scope.now.text.now scope.now.names.now scope.now.table.now part block.now notes.old) }
 {
+    let scope = Scope {
+        text: scope.text,
+        names: scope.names,
+        table: scope.table,
+        params: &[],
+    };
     let mut loops = Vec::new(alloc);
-    walk_block(scope, part, &[], &mut loops, false, notes, block)?;
+    walk_block(&scope, part, &mut loops, false, notes, block)?;
     Ok(())
 }
 
@@ -221,7 +240,7 @@ fn walk_part(
 }
 
 // A part that waits for these parameters.
-#[tactic(auto, unfolding(crate::specs::Steps::part_with))]
+#[tactic(auto, unfolding(job_rules::specs::Steps::part_with))]
 fn walk_part_with(
     alloc: Global,
     scope: &Scope,
@@ -234,18 +253,15 @@ fn walk_part_with(
 {
     walk_when(scope, at, part.at, params.len(), part.port, notes)?;
     walk_params(scope, params, notes);
+    let scope = Scope {
+        text: scope.text,
+        names: scope.names,
+        table: scope.table,
+        params,
+    };
     let mut loops = Vec::new(alloc);
-    walk_block(scope, at, params, &mut loops, false, notes, &part.block)?;
+    walk_block(&scope, at, &mut loops, false, notes, &part.block)?;
     Ok(())
-}
-
-fn names_listed(alloc: Global, names: &tree::Names) -> Result<Vec<Span>, Memory>
-    ensures { IfOk result (λ listed. listed.items ≡ names_listed names.now) }
-{
-    let mut listed = Vec::new(alloc);
-    listed.push(names.first)?;
-    listed.extend_from_slice(names.others.as_slice())?;
-    Ok(listed)
 }
 
 fn walk_params(scope: &Scope, params: &[Span], notes: &mut Notes)
@@ -257,7 +273,7 @@ fn walk_params(scope: &Scope, params: &[Span], notes: &mut Notes)
 }
 
 // A parameter is declared where no other name of the array and no parameter before has its name.
-#[tactic(auto, unfolding(crate::specs::Steps::param_walked))]
+#[tactic(auto, unfolding(job_rules::specs::Steps::param_walked))]
 fn walk_param(scope: &Scope, params: &[Span], number: usize, name: Span, notes: &mut Notes)
     ensures { notes.new ≡ param_walked scope.now.text.now scope.now.table.now params.now number name notes.old }
 {
@@ -267,7 +283,7 @@ fn walk_param(scope: &Scope, params: &[Span], number: usize, name: Span, notes: 
     notes.note(fault_if(taken, CheckFault::Twice { at: name.at }));
 }
 
-#[tactic(auto, unfolding(crate::specs::Steps::when_walked))]
+#[tactic(auto, unfolding(job_rules::specs::Steps::when_walked))]
 fn walk_when(
     scope: &Scope,
     part: PartAt,

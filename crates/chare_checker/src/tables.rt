@@ -1,51 +1,26 @@
 //! The names of a job: its arrays, and for each array its states, entries and reductions.
 
 ghost use Rattle.std.specs.Prelude.{◌≡◌, [], IfOk, OnOk};
-ghost use Rattle.chare_checker.specs.Tables.{array_number, arrays_named, cells_written, counts_after, counts_with, job_names, no_counts, port_named, ports_named, states_named, table_of, tables_from, values_written};
+ghost use Rattle.job_rules.specs.Tables.{array_number, arrays_named, cells_written, counts_after, counts_with, job_names, meant_in, member_meaning, no_counts, port_named, ports_named, states_named, table_of, tables_from, values_written};
 
-use crate::names::{Meaning, Names, bytes_at};
 use chare_base::memory::Memory;
-use chare_syntax::token::{Num, Span};
-use chare_syntax::tree::{ArrayDecl, Job, MemberDecl, StateDecl};
+use job_rules::names::{Meaning, Names, bytes_at};
+use job_rules::tables::{Counts, JobNames};
+use job_tree::token::{Num, Span};
+use job_tree::tree::{ArrayDecl, Job, MemberDecl, StateDecl};
 use sqlite_items::Items;
 use std::alloc::Global;
 
-/// The names of a job.
-#[derive(Drop)]
-pub struct JobNames {
-    /// The arrays.
-    pub arrays: Names,
-    /// For each array, in text order, its states, entries and reductions.
-    pub tables: Items<Names>,
-}
-
-/// How many ports, entries and reductions were declared so far.
-#[derive(Clone, Copy, Debug, PartialEq, Eq)]
-pub struct Counts {
-    pub ports: usize,
-    pub entries: usize,
-    pub reductions: usize,
-}
-
-impl Counts {
-    /// None yet.
-    pub(crate) const NONE: Counts = Counts {
-        ports: 0,
-        entries: 0,
-        reductions: 0,
-    };
-}
-
-impl JobNames {
-    /// The names that a job declares.
-    #[tactic(auto, unfolding(crate::specs::Tables::job_names))]
-    pub(crate) fn of(alloc: Global, text: &[u8], job: &Job) -> Result<JobNames, Memory>
-        ensures { IfOk result (λ names. names ≡ job_names text.now job.now) }
-    {
-        let arrays = name_arrays(alloc, text, job.arrays.as_slice())?;
-        let tables = name_members(alloc, text, &arrays, job.arrays.as_slice())?;
-        Ok(JobNames { arrays, tables })
-    }
+/// The names that a job declares.
+///
+/// `Memory`: an allocation was refused.
+#[tactic(auto, unfolding(job_rules::specs::Tables::job_names))]
+pub(crate) fn names_of(alloc: Global, text: &[u8], job: &Job) -> Result<JobNames, Memory>
+    ensures { IfOk result (λ names. names ≡ job_names text.now job.now) }
+{
+    let arrays = name_arrays(alloc, text, job.arrays.as_slice())?;
+    let tables = name_members(alloc, text, &arrays, job.arrays.as_slice())?;
+    Ok(JobNames { arrays, tables })
 }
 
 /// The number of the array of this name, if there is one.
@@ -226,5 +201,27 @@ pub(crate) fn counts_with(counts: Counts, member: MemberDecl) -> Counts
             entries: counts.entries,
             reductions: counts.reductions.saturating_add(1),
         },
+    }
+}
+
+/// What a name means in the array of this number, if it means something there.
+#[tactic(auto, unfolding(job_rules::specs::Tables::member_meaning, job_rules::specs::Names::lookup))]
+pub(crate) fn member_meaning(names: &JobNames, number: usize, name: &[u8]) -> Option<Meaning>
+    ensures { result ≡ member_meaning names.now number name.now }
+{
+    match names.tables.get(number) {
+        Some(table) => table.get(name),
+        None => None,
+    }
+}
+
+/// The same, where the array may not be there.
+#[tactic(auto, unfolding(job_rules::specs::Tables::member_meaning))]
+pub(crate) fn meant_in(names: &JobNames, number: Option<usize>, name: &[u8]) -> Option<Meaning>
+    ensures { result ≡ meant_in names.now number name.now }
+{
+    match number {
+        Some(number) => member_meaning(names, number, name),
+        None => None,
     }
 }

@@ -2,10 +2,11 @@
 
 ghost use Rattle.std.specs.Prelude.{◌≡◌, ◌<◌, ◌≤◌, length, not, reverse};
 ghost use Rattle.std.specs.List.{count_by, take_while};
-ghost use Rattle.chare_checker.specs.Wording.{ends_line, fault_code, parse_code, parse_place, parse_word, rule_word, word_of, wording};
+ghost use Rattle.job_rules.specs.Codes.{fault_code, parse_code, parse_place};
+ghost use Rattle.chare_checker.specs.Wording.{ends_line, parse_word, rule_word, word_of, wording};
 
-use crate::fault::CheckFault;
-use chare_syntax::fault::ParseFault;
+use job_rules::fault::CheckFault;
+use job_tree::fault::ParseFault;
 
 /// A place of the text, as line and column, and the code of a word. Lines and columns count from 1, columns count
 /// bytes, and only LF ends a line.

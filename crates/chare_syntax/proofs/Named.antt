@@ -5,19 +5,19 @@ use Rattle.std.specs.List.{list_all, take_while}
 use Rattle.std.proofs.lemmas.Bool.{and_parts, and_from, le-leb}
 use Rattle.std.proofs.lemmas.List.Folds.{length-prefix_len}
 use Rattle.std.proofs.lemmas.List.Sums.{prefix_len-le-length}
-use Rattle.chare_syntax.specs.declared.lexer.Piece.{Piece}
-use Rattle.chare_syntax.specs.declared.lexer.Piece.TheVariants as pieces
-use Rattle.chare_syntax.specs.declared.token.Kind.{Kind}
-use Rattle.chare_syntax.specs.declared.token.Kind.TheVariants as kinds
-use Rattle.chare_syntax.specs.declared.token.Mark.{Mark as MarkOf}
-use Rattle.chare_syntax.specs.declared.token.Token.{Token}
-use Rattle.chare_syntax.specs.declared.tree.Job.{Job}
-use Rattle.chare_syntax.specs.Tokens.{greatest, number_from, kind_of_word, word_piece, number_piece, single_piece, symbol_piece, pair_at, bracket_mark, operator_mark, is_blank, is_letter, is_digit, in_word, in_comment, piece_of, piece_then, tokens_of, tokens}
-use Rattle.chare_syntax.specs.Words.{reserved}
-use Rattle.chare_syntax.specs.Word.{Word, Name, Number, Marked, kind_of}
-use Rattle.chare_syntax.specs.Spelling.{job_spelling}
-use Rattle.chare_syntax.specs.Accepted.{Whole, IsJob, span_lies, word_lies, names_lie}
-use Rattle.chare_syntax.specs.Text.{ReadsAs}
+use Rattle.job_tree.specs.declared.token.Piece.{Piece}
+use Rattle.job_tree.specs.declared.token.Piece.TheVariants as pieces
+use Rattle.job_tree.specs.declared.token.Kind.{Kind}
+use Rattle.job_tree.specs.declared.token.Kind.TheVariants as kinds
+use Rattle.job_tree.specs.declared.token.Mark.{Mark as MarkOf}
+use Rattle.job_tree.specs.declared.token.Token.{Token}
+use Rattle.job_tree.specs.declared.tree.Job.{Job}
+use Rattle.job_tree.specs.Tokens.{greatest, number_from, kind_of_word, word_piece, number_piece, single_piece, symbol_piece, pair_at, bracket_mark, operator_mark, is_blank, is_letter, is_digit, in_word, in_comment, piece_of, piece_then, tokens_of, tokens}
+use Rattle.job_tree.specs.Words.{reserved}
+use Rattle.job_tree.specs.Word.{Word, Name, Number, Marked, kind_of}
+use Rattle.job_tree.specs.Spelling.{job_spelling}
+use Rattle.job_tree.specs.Accepted.{Whole, IsJob, span_lies, word_lies, names_lie}
+use Rattle.job_tree.specs.Text.{ReadsAs}
 
 -- ---- the tokens of a text
 

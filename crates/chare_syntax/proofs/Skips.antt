@@ -5,12 +5,12 @@ use Rattle.std.proofs.lemmas.List.Folds.{length-prefix_len}
 use Rattle.std.proofs.lemmas.Bool.{ne_eqb}
 use Rattle.std.specs.Prelude.{◌==◌}
 use Rattle.std.specs.List.{take_while}
-use Rattle.chare_syntax.specs.declared.lexer.Piece.{Piece}
-use Rattle.chare_syntax.specs.declared.lexer.Piece.TheVariants as pieces
-use Rattle.chare_syntax.specs.declared.token.Mark.{Mark as MarkOf}
-use Rattle.chare_syntax.specs.declared.token.Token.{Token}
-use Rattle.chare_syntax.specs.declared.token.Kind.TheVariants.{End}
-use Rattle.chare_syntax.specs.Tokens.{number_from, piece_of, piece_at, piece_then, piece_tokens, single_piece, symbol_piece, pair_at, pair_mark, bracket_mark, operator_mark, word_piece, number_piece, is_blank, is_letter, is_digit, in_word, len_of, Fits, token, tokens_of}
+use Rattle.job_tree.specs.declared.token.Piece.{Piece}
+use Rattle.job_tree.specs.declared.token.Piece.TheVariants as pieces
+use Rattle.job_tree.specs.declared.token.Mark.{Mark as MarkOf}
+use Rattle.job_tree.specs.declared.token.Token.{Token}
+use Rattle.job_tree.specs.declared.token.Kind.TheVariants.{End}
+use Rattle.job_tree.specs.Tokens.{number_from, piece_of, piece_at, piece_then, piece_tokens, single_piece, symbol_piece, pair_at, pair_mark, bracket_mark, operator_mark, word_piece, number_piece, is_blank, is_letter, is_digit, in_word, len_of, Fits, token, tokens_of}
 
 -- numbers that are the same up to a bound stay so
 capped : (m n n' : ℕ) (ds : List ℕ) → min n m ≡ min n' m → min (number_from n ds) m ≡ min (number_from n' ds) m

@@ -1,8 +1,8 @@
 //! Readers of declarations. `levels` is how many levels of nesting may still be opened.
 
 ghost use Rattle.std.specs.Prelude.{◌≡◌, ◌<◌, ◌≤◌, length, IfOk};
-ghost use Rattle.chare_syntax.specs.Fault.{Gives};
-ghost use Rattle.chare_syntax.specs.Reading.{state_at, states_at, edge_at, entry_at, reduce_at, member_at, members_at, array_at, arrays_at, over_at, cell_answer_at, answer_at, answers_at, job_at};
+ghost use Rattle.job_tree.specs.Fault.{Gives};
+ghost use Rattle.job_tree.specs.Reading.{state_at, states_at, edge_at, entry_at, reduce_at, member_at, members_at, array_at, arrays_at, over_at, cell_answer_at, answer_at, answers_at, job_at};
 
 use crate::expressions::expr_of;
 use crate::fault::ParseFault;
@@ -17,7 +17,7 @@ use sqlite_items::Items;
 use std::alloc::Global;
 
 // Reads a state.
-#[tactic(auto, unfolding(crate::specs::Reading::state_at))]
+#[tactic(auto, unfolding(job_tree::specs::Reading::state_at))]
 fn state_of(
     alloc: Global,
     tokens: &[Token],
@@ -43,7 +43,7 @@ fn state_of(
 }
 
 // Reads states, of which there is one at least.
-#[tactic(auto, unfolding(crate::specs::Reading::states_at))]
+#[tactic(auto, unfolding(job_tree::specs::Reading::states_at))]
 fn states_of(
     alloc: Global,
     tokens: &[Token],
@@ -64,7 +64,7 @@ fn states_of(
 }
 
 // Reads what an element beyond the edge gives.
-#[tactic(auto, unfolding(crate::specs::Reading::edge_at))]
+#[tactic(auto, unfolding(job_tree::specs::Reading::edge_at))]
 fn edge_of(tokens: &[Token]) -> Result<(EdgeDecl, &[Token]), ParseFault>
     ensures exact { Gives (λ x. (x.0, x.1.now)) result (edge_at tokens.now) }
     ensures shorter { IfOk result (λ x. length x.1.now < length tokens.now) }
@@ -80,7 +80,7 @@ fn edge_of(tokens: &[Token]) -> Result<(EdgeDecl, &[Token]), ParseFault>
 }
 
 // Reads an entry.
-#[tactic(auto, unfolding(crate::specs::Reading::entry_at))]
+#[tactic(auto, unfolding(job_tree::specs::Reading::entry_at))]
 fn entry_of(tokens: &[Token], levels: u32) -> Result<(EntryDecl, &[Token]), ParseFault>
     ensures exact { Gives (λ x. (x.0, x.1.now)) result (entry_at levels tokens.now) }
     ensures shorter { IfOk result (λ x. length x.1.now < length tokens.now) }
@@ -104,7 +104,7 @@ fn entry_of(tokens: &[Token], levels: u32) -> Result<(EntryDecl, &[Token]), Pars
 }
 
 // Reads a reduction.
-#[tactic(auto, unfolding(crate::specs::Reading::reduce_at))]
+#[tactic(auto, unfolding(job_tree::specs::Reading::reduce_at))]
 fn reduce_of(tokens: &[Token]) -> Result<(ReduceDecl, &[Token]), ParseFault>
     ensures exact { Gives (λ x. (x.0, x.1.now)) result (reduce_at tokens.now) }
     ensures shorter { IfOk result (λ x. length x.1.now < length tokens.now) }
@@ -116,7 +116,7 @@ fn reduce_of(tokens: &[Token]) -> Result<(ReduceDecl, &[Token]), ParseFault>
 }
 
 // Reads an entry or a reduction.
-#[tactic(auto, unfolding(crate::specs::Reading::member_at))]
+#[tactic(auto, unfolding(job_tree::specs::Reading::member_at))]
 fn member_of(tokens: &[Token], levels: u32) -> Result<(MemberDecl, &[Token]), ParseFault>
     ensures exact { Gives (λ x. (x.0, x.1.now)) result (member_at levels tokens.now) }
     ensures shorter { IfOk result (λ x. length x.1.now < length tokens.now) }
@@ -131,7 +131,7 @@ fn member_of(tokens: &[Token], levels: u32) -> Result<(MemberDecl, &[Token]), Pa
 }
 
 // Reads entries and reductions.
-#[tactic(auto, unfolding(crate::specs::Reading::members_at))]
+#[tactic(auto, unfolding(job_tree::specs::Reading::members_at))]
 fn members_of(
     alloc: Global,
     tokens: &[Token],
@@ -151,7 +151,7 @@ fn members_of(
 }
 
 // Reads an array.
-#[tactic(auto, unfolding(crate::specs::Reading::array_at))]
+#[tactic(auto, unfolding(job_tree::specs::Reading::array_at))]
 fn array_of(
     alloc: Global,
     tokens: &[Token],
@@ -180,7 +180,7 @@ fn array_of(
 }
 
 // Reads arrays, of which there is one at least.
-#[tactic(auto, unfolding(crate::specs::Reading::arrays_at))]
+#[tactic(auto, unfolding(job_tree::specs::Reading::arrays_at))]
 fn arrays_of(
     alloc: Global,
     tokens: &[Token],
@@ -201,7 +201,7 @@ fn arrays_of(
 }
 
 // Reads an answer over all cells of a state, behind the word at this place.
-#[tactic(auto, unfolding(crate::specs::Reading::over_at))]
+#[tactic(auto, unfolding(job_tree::specs::Reading::over_at))]
 fn over_of(tokens: &[Token], at: u32) -> Result<(AnswerDecl, &[Token]), ParseFault>
     ensures exact { Gives (λ x. (x.0, x.1.now)) result (over_at at tokens.now) }
     ensures shorter { IfOk result (λ x. length x.1.now < length tokens.now) }
@@ -220,7 +220,7 @@ fn over_of(tokens: &[Token], at: u32) -> Result<(AnswerDecl, &[Token]), ParseFau
 }
 
 // Reads an answer of one cell, behind the word at this place.
-#[tactic(auto, unfolding(crate::specs::Reading::cell_answer_at))]
+#[tactic(auto, unfolding(job_tree::specs::Reading::cell_answer_at))]
 fn cell_answer_of(
     tokens: &[Token],
     at: u32,
@@ -246,7 +246,7 @@ fn cell_answer_of(
 }
 
 // Reads an answer.
-#[tactic(auto, unfolding(crate::specs::Reading::answer_at))]
+#[tactic(auto, unfolding(job_tree::specs::Reading::answer_at))]
 fn answer_of(tokens: &[Token], levels: u32) -> Result<(AnswerDecl, &[Token]), ParseFault>
     ensures exact { Gives (λ x. (x.0, x.1.now)) result (answer_at levels tokens.now) }
     ensures shorter { IfOk result (λ x. length x.1.now < length tokens.now) }
@@ -262,7 +262,7 @@ fn answer_of(tokens: &[Token], levels: u32) -> Result<(AnswerDecl, &[Token]), Pa
 }
 
 // Reads answers, of which there is one at least.
-#[tactic(auto, unfolding(crate::specs::Reading::answers_at))]
+#[tactic(auto, unfolding(job_tree::specs::Reading::answers_at))]
 fn answers_of(
     alloc: Global,
     tokens: &[Token],
@@ -283,7 +283,7 @@ fn answers_of(
 }
 
 /// Reads a job.
-#[tactic(auto, unfolding(crate::specs::Reading::job_at))]
+#[tactic(auto, unfolding(job_tree::specs::Reading::job_at))]
 pub fn job_of(alloc: Global, tokens: &[Token], levels: u32) -> Result<(Job, &[Token]), ParseFault>
     ensures exact { Gives (λ x. (x.0, x.1.now)) result (job_at levels tokens.now) }
     ensures shorter { IfOk result (λ x. length x.1.now < length tokens.now) }

@@ -1,10 +1,10 @@
 //! Readers of expressions. `levels` is how many levels of nesting may still be opened.
 
 ghost use Rattle.std.specs.Prelude.{◌≡◌, ◌<◌, ◌≤◌, ◌+◌, length, IfOk};
-ghost use Rattle.chare_syntax.specs.Fault.{Gives};
-ghost use Rattle.chare_syntax.specs.declared.token.Mark.TheVariants as marks;
-ghost use Rattle.chare_syntax.specs.Readers.{is_mark, many, optional};
-ghost use Rattle.chare_syntax.specs.Reading.{deeper, is_add, is_mul, is_compare, behind, leaf_at, unary_at, test_at, expr_at, product_with, product_term_with, sum_with, sum_term_with, comparison_with, compared_with, conj_with, expr_with, group_with, choice_with, index_with, named_with, atom_with, minus_with, unary_with, not_with, test_with};
+ghost use Rattle.job_tree.specs.Fault.{Gives};
+ghost use Rattle.job_tree.specs.declared.token.Mark.TheVariants as marks;
+ghost use Rattle.job_tree.specs.Readers.{is_mark, many, optional};
+ghost use Rattle.job_tree.specs.Reading.{deeper, is_add, is_mul, is_compare, behind, leaf_at, unary_at, test_at, expr_at, product_with, product_term_with, sum_with, sum_term_with, comparison_with, compared_with, conj_with, expr_with, group_with, choice_with, index_with, named_with, atom_with, minus_with, unary_with, not_with, test_with};
 
 use crate::fault::ParseFault;
 use crate::leaves::{
@@ -18,7 +18,7 @@ use std::alloc::Global;
 
 /// Reads an expression.
 #[cycle(expression)]
-#[tactic(auto, unfolding(crate::specs::Reading::expr_with))]
+#[tactic(auto, unfolding(job_tree::specs::Reading::expr_with))]
 pub fn expr_of(alloc: Global, tokens: &[Token], levels: u32) -> Result<(Expr, &[Token]), ParseFault>
     ensures exact { Gives (λ x. (x.0, x.1.now)) result (expr_at levels tokens.now) }
     ensures shorter { IfOk result (λ x. length x.1.now < length tokens.now) }
@@ -51,7 +51,7 @@ fn conjs_of(
 
 // Reads tests joined by `and`.
 #[cycle(expression)]
-#[tactic(auto, unfolding(crate::specs::Reading::conj_with))]
+#[tactic(auto, unfolding(job_tree::specs::Reading::conj_with))]
 fn conj_of(alloc: Global, tokens: &[Token], levels: u32) -> Result<(Conj, &[Token]), ParseFault>
     ensures exact { Gives (λ x. (x.0, x.1.now)) result (conj_with (test_at levels) tokens.now) }
     ensures shorter { IfOk result (λ x. length x.1.now < length tokens.now) }
@@ -85,7 +85,7 @@ fn tests_of(
 
 // Reads a test.
 #[cycle(expression)]
-#[tactic(auto, unfolding(crate::specs::Reading::test_with))]
+#[tactic(auto, unfolding(job_tree::specs::Reading::test_with))]
 fn test_of(alloc: Global, tokens: &[Token], levels: u32) -> Result<(Test, &[Token]), ParseFault>
     ensures exact { Gives (λ x. (x.0, x.1.now)) result (test_at levels tokens.now) }
     ensures shorter { IfOk result (λ x. length x.1.now < length tokens.now) }
@@ -99,7 +99,7 @@ fn test_of(alloc: Global, tokens: &[Token], levels: u32) -> Result<(Test, &[Toke
 
 // Reads `not` and its operand.
 #[cycle(expression)]
-#[tactic(auto, unfolding(crate::specs::Reading::not_with))]
+#[tactic(auto, unfolding(job_tree::specs::Reading::not_with))]
 fn not_of(alloc: Global, tokens: &[Token], levels: u32) -> Result<(Test, &[Token]), ParseFault>
     ensures exact { Gives (λ x. (x.0, x.1.now)) result (not_with levels (deeper levels) tokens.now) }
     ensures shorter { IfOk result (λ x. length x.1.now < length tokens.now) }
@@ -113,7 +113,7 @@ fn not_of(alloc: Global, tokens: &[Token], levels: u32) -> Result<(Test, &[Token
 
 // Reads a sum, and what it is compared with.
 #[cycle(expression)]
-#[tactic(auto, unfolding(crate::specs::Reading::compared_with))]
+#[tactic(auto, unfolding(job_tree::specs::Reading::compared_with))]
 fn compared_of(alloc: Global, tokens: &[Token], levels: u32) -> Result<(Test, &[Token]), ParseFault>
     ensures exact { Gives (λ x. (x.0, x.1.now)) result (compared_with (unary_at levels) tokens.now) }
     ensures shorter { IfOk result (λ x. length x.1.now < length tokens.now) }
@@ -128,7 +128,7 @@ fn compared_of(alloc: Global, tokens: &[Token], levels: u32) -> Result<(Test, &[
 
 // Reads what a sum is compared with.
 #[cycle(expression)]
-#[tactic(auto, unfolding(crate::specs::Reading::comparison_with))]
+#[tactic(auto, unfolding(job_tree::specs::Reading::comparison_with))]
 fn comparison_of(
     alloc: Global,
     tokens: &[Token],
@@ -144,7 +144,7 @@ fn comparison_of(
 
 // Reads a sum.
 #[cycle(expression)]
-#[tactic(auto, unfolding(crate::specs::Reading::sum_with))]
+#[tactic(auto, unfolding(job_tree::specs::Reading::sum_with))]
 fn sum_of(alloc: Global, tokens: &[Token], levels: u32) -> Result<(Sum, &[Token]), ParseFault>
     ensures exact { Gives (λ x. (x.0, x.1.now)) result (sum_with (unary_at levels) tokens.now) }
     ensures shorter { IfOk result (λ x. length x.1.now < length tokens.now) }
@@ -177,7 +177,7 @@ fn sum_terms_of(
 
 // Reads a product behind a plus or a minus.
 #[cycle(expression)]
-#[tactic(auto, unfolding(crate::specs::Reading::sum_term_with))]
+#[tactic(auto, unfolding(job_tree::specs::Reading::sum_term_with))]
 fn sum_term_of(
     alloc: Global,
     tokens: &[Token],
@@ -193,7 +193,7 @@ fn sum_term_of(
 
 // Reads a product.
 #[cycle(expression)]
-#[tactic(auto, unfolding(crate::specs::Reading::product_with))]
+#[tactic(auto, unfolding(job_tree::specs::Reading::product_with))]
 fn product_of(
     alloc: Global,
     tokens: &[Token],
@@ -229,7 +229,7 @@ fn product_terms_of(
 
 // Reads a unary behind an operator of a product.
 #[cycle(expression)]
-#[tactic(auto, unfolding(crate::specs::Reading::product_term_with))]
+#[tactic(auto, unfolding(job_tree::specs::Reading::product_term_with))]
 fn product_term_of(
     alloc: Global,
     tokens: &[Token],
@@ -245,7 +245,7 @@ fn product_term_of(
 
 // Reads a unary.
 #[cycle(expression)]
-#[tactic(auto, unfolding(crate::specs::Reading::unary_with))]
+#[tactic(auto, unfolding(job_tree::specs::Reading::unary_with))]
 fn unary_of(alloc: Global, tokens: &[Token], levels: u32) -> Result<(Unary, &[Token]), ParseFault>
     ensures exact { Gives (λ x. (x.0, x.1.now)) result (unary_at levels tokens.now) }
     ensures shorter { IfOk result (λ x. length x.1.now < length tokens.now) }
@@ -260,7 +260,7 @@ fn unary_of(alloc: Global, tokens: &[Token], levels: u32) -> Result<(Unary, &[To
 
 // Reads a minus and its operand.
 #[cycle(expression)]
-#[tactic(auto, unfolding(crate::specs::Reading::minus_with))]
+#[tactic(auto, unfolding(job_tree::specs::Reading::minus_with))]
 fn minus_of(alloc: Global, tokens: &[Token], levels: u32) -> Result<(Unary, &[Token]), ParseFault>
     ensures exact { Gives (λ x. (x.0, x.1.now)) result (minus_with levels (deeper levels) tokens.now) }
     ensures shorter { IfOk result (λ x. length x.1.now < length tokens.now) }
@@ -274,7 +274,7 @@ fn minus_of(alloc: Global, tokens: &[Token], levels: u32) -> Result<(Unary, &[To
 
 // Reads an atom.
 #[cycle(expression)]
-#[tactic(auto, unfolding(crate::specs::Reading::atom_with))]
+#[tactic(auto, unfolding(job_tree::specs::Reading::atom_with))]
 fn atom_of(alloc: Global, tokens: &[Token], levels: u32) -> Result<(Atom, &[Token]), ParseFault>
     ensures exact { Gives (λ x. (x.0, x.1.now)) result (atom_with levels (deeper levels) tokens.now) }
     ensures shorter { IfOk result (λ x. length x.1.now < length tokens.now) }
@@ -291,7 +291,7 @@ fn atom_of(alloc: Global, tokens: &[Token], levels: u32) -> Result<(Atom, &[Toke
 }
 
 // Reads a number, or a word for one.
-#[tactic(auto, unfolding(crate::specs::Reading::leaf_at))]
+#[tactic(auto, unfolding(job_tree::specs::Reading::leaf_at))]
 fn leaf_of(tokens: &[Token]) -> Result<(Atom, &[Token]), ParseFault>
     ensures exact { Gives (λ x. (x.0, x.1.now)) result (leaf_at tokens.now) }
     ensures shorter { IfOk result (λ x. length x.1.now < length tokens.now) }
@@ -307,7 +307,7 @@ fn leaf_of(tokens: &[Token]) -> Result<(Atom, &[Token]), ParseFault>
 
 // Reads an expression in brackets.
 #[cycle(expression)]
-#[tactic(auto, unfolding(crate::specs::Reading::group_with))]
+#[tactic(auto, unfolding(job_tree::specs::Reading::group_with))]
 fn group_of(alloc: Global, tokens: &[Token], levels: u32) -> Result<(Atom, &[Token]), ParseFault>
     ensures exact { Gives (λ x. (x.0, x.1.now)) result (group_with levels (deeper levels) tokens.now) }
     ensures shorter { IfOk result (λ x. length x.1.now < length tokens.now) }
@@ -322,7 +322,7 @@ fn group_of(alloc: Global, tokens: &[Token], levels: u32) -> Result<(Atom, &[Tok
 
 // Reads `min` or `max` of two expressions.
 #[cycle(expression)]
-#[tactic(auto, unfolding(crate::specs::Reading::choice_with))]
+#[tactic(auto, unfolding(job_tree::specs::Reading::choice_with))]
 fn least_of(alloc: Global, tokens: &[Token], levels: u32) -> Result<(Atom, &[Token]), ParseFault>
     ensures exact { Gives (λ x. (x.0, x.1.now)) result (choice_with levels (deeper levels) tokens.now) }
     ensures shorter { IfOk result (λ x. length x.1.now < length tokens.now) }
@@ -346,7 +346,7 @@ fn least_of(alloc: Global, tokens: &[Token], levels: u32) -> Result<(Atom, &[Tok
 
 // Reads a name, and its index where it has one.
 #[cycle(expression)]
-#[tactic(auto, unfolding(crate::specs::Reading::named_with))]
+#[tactic(auto, unfolding(job_tree::specs::Reading::named_with))]
 fn named_of(alloc: Global, tokens: &[Token], levels: u32) -> Result<(Atom, &[Token]), ParseFault>
     ensures exact { Gives (λ x. (x.0, x.1.now)) result (named_with levels (deeper levels) tokens.now) }
     ensures shorter { IfOk result (λ x. length x.1.now < length tokens.now) }
@@ -362,7 +362,7 @@ fn named_of(alloc: Global, tokens: &[Token], levels: u32) -> Result<(Atom, &[Tok
 
 /// Reads an index in its brackets.
 #[cycle(expression)]
-#[tactic(auto, unfolding(crate::specs::Reading::index_with))]
+#[tactic(auto, unfolding(job_tree::specs::Reading::index_with))]
 pub fn index_of(
     alloc: Global,
     tokens: &[Token],

@@ -1,9 +1,9 @@
 //! Readers of one token.
 
 ghost use Rattle.std.specs.Prelude.{◌≡◌, ◌<◌, ◌≤◌, ◌+◌, length, IfOk, List, [], ◌∷◌};
-ghost use Rattle.chare_syntax.specs.Fault.{Gives, wrong_fault, place};
-ghost use Rattle.chare_syntax.specs.Readers.{goes, is_mark, mark_at, open_at};
-ghost use Rattle.chare_syntax.specs.Reading.{told, name_in, num_in, add_in, mul_in, compare_in, here_in, choice_in, how_in, is_name, is_num, is_add, is_mul, is_compare, is_choice, is_stmt, is_member, name_at, num_at, add_at, mul_at, compare_at, here_at, choice_at, how_at, end_at};
+ghost use Rattle.job_tree.specs.Fault.{Gives, wrong_fault, place};
+ghost use Rattle.job_tree.specs.Readers.{goes, is_mark, mark_at, open_at};
+ghost use Rattle.job_tree.specs.Reading.{told, name_in, num_in, add_in, mul_in, compare_in, here_in, choice_in, how_in, is_name, is_num, is_add, is_mul, is_compare, is_choice, is_stmt, is_member, name_at, num_at, add_at, mul_at, compare_at, here_at, choice_at, how_at, end_at};
 
 use crate::fault::ParseFault;
 use crate::token::{Kind, Mark, Num, Opened, Span, Token};
@@ -242,7 +242,7 @@ pub fn wrong(tokens: &[Token]) -> ParseFault
 }
 
 /// Reads a name.
-#[tactic(auto, unfolding(crate::specs::Reading::name_at))]
+#[tactic(auto, unfolding(job_tree::specs::Reading::name_at))]
 pub fn name_of(tokens: &[Token]) -> Result<(Span, &[Token]), ParseFault>
     ensures exact { Gives (λ x. (x.0, x.1.now)) result (name_at tokens.now) }
     ensures shorter { IfOk result (λ x. length x.1.now < length tokens.now) }
@@ -257,7 +257,7 @@ pub fn name_of(tokens: &[Token]) -> Result<(Span, &[Token]), ParseFault>
 }
 
 /// Reads a number.
-#[tactic(auto, unfolding(crate::specs::Reading::num_at))]
+#[tactic(auto, unfolding(job_tree::specs::Reading::num_at))]
 pub fn num_of(tokens: &[Token]) -> Result<(Num, &[Token]), ParseFault>
     ensures exact { Gives (λ x. (x.0, x.1.now)) result (num_at tokens.now) }
     ensures shorter { IfOk result (λ x. length x.1.now < length tokens.now) }
@@ -272,7 +272,7 @@ pub fn num_of(tokens: &[Token]) -> Result<(Num, &[Token]), ParseFault>
 }
 
 /// Reads an operator of a sum, with its place.
-#[tactic(auto, unfolding(crate::specs::Reading::add_at))]
+#[tactic(auto, unfolding(job_tree::specs::Reading::add_at))]
 pub fn add_of(tokens: &[Token]) -> Result<((u32, AddOp), &[Token]), ParseFault>
     ensures exact { Gives (λ x. (x.0, x.1.now)) result (add_at tokens.now) }
     ensures shorter { IfOk result (λ x. length x.1.now < length tokens.now) }
@@ -287,7 +287,7 @@ pub fn add_of(tokens: &[Token]) -> Result<((u32, AddOp), &[Token]), ParseFault>
 }
 
 /// Reads an operator of a product, with its place.
-#[tactic(auto, unfolding(crate::specs::Reading::mul_at))]
+#[tactic(auto, unfolding(job_tree::specs::Reading::mul_at))]
 pub fn mul_of(tokens: &[Token]) -> Result<((u32, MulOp), &[Token]), ParseFault>
     ensures exact { Gives (λ x. (x.0, x.1.now)) result (mul_at tokens.now) }
     ensures shorter { IfOk result (λ x. length x.1.now < length tokens.now) }
@@ -302,7 +302,7 @@ pub fn mul_of(tokens: &[Token]) -> Result<((u32, MulOp), &[Token]), ParseFault>
 }
 
 /// Reads an operator that compares.
-#[tactic(auto, unfolding(crate::specs::Reading::compare_at))]
+#[tactic(auto, unfolding(job_tree::specs::Reading::compare_at))]
 pub fn compare_of(tokens: &[Token]) -> Result<(CompareOp, &[Token]), ParseFault>
     ensures exact { Gives (λ x. (x.0, x.1.now)) result (compare_at tokens.now) }
     ensures shorter { IfOk result (λ x. length x.1.now < length tokens.now) }
@@ -317,7 +317,7 @@ pub fn compare_of(tokens: &[Token]) -> Result<(CompareOp, &[Token]), ParseFault>
 }
 
 /// Reads a word for a number of the place, with its place.
-#[tactic(auto, unfolding(crate::specs::Reading::here_at))]
+#[tactic(auto, unfolding(job_tree::specs::Reading::here_at))]
 pub fn here_of(tokens: &[Token]) -> Result<((u32, Here), &[Token]), ParseFault>
     ensures exact { Gives (λ x. (x.0, x.1.now)) result (here_at tokens.now) }
     ensures shorter { IfOk result (λ x. length x.1.now < length tokens.now) }
@@ -332,7 +332,7 @@ pub fn here_of(tokens: &[Token]) -> Result<((u32, Here), &[Token]), ParseFault>
 }
 
 /// Reads `min` or `max`, with its place.
-#[tactic(auto, unfolding(crate::specs::Reading::choice_at))]
+#[tactic(auto, unfolding(job_tree::specs::Reading::choice_at))]
 pub fn choice_of(tokens: &[Token]) -> Result<((u32, Choice), &[Token]), ParseFault>
     ensures exact { Gives (λ x. (x.0, x.1.now)) result (choice_at tokens.now) }
     ensures shorter { IfOk result (λ x. length x.1.now < length tokens.now) }
@@ -347,7 +347,7 @@ pub fn choice_of(tokens: &[Token]) -> Result<((u32, Choice), &[Token]), ParseFau
 }
 
 /// Reads `sum`, `min` or `max`.
-#[tactic(auto, unfolding(crate::specs::Reading::how_at))]
+#[tactic(auto, unfolding(job_tree::specs::Reading::how_at))]
 pub fn how_of(tokens: &[Token]) -> Result<(How, &[Token]), ParseFault>
     ensures exact { Gives (λ x. (x.0, x.1.now)) result (how_at tokens.now) }
     ensures shorter { IfOk result (λ x. length x.1.now < length tokens.now) }
@@ -362,7 +362,7 @@ pub fn how_of(tokens: &[Token]) -> Result<(How, &[Token]), ParseFault>
 }
 
 /// Reads this mark: its place.
-#[tactic(auto, unfolding(crate::specs::Readers::mark_at))]
+#[tactic(auto, unfolding(job_tree::specs::Readers::mark_at))]
 pub fn mark_of(tokens: &[Token], mark: Mark) -> Result<(u32, &[Token]), ParseFault>
     ensures exact { Gives (λ x. (x.0, x.1.now)) result (mark_at mark tokens.now) }
     ensures shorter { IfOk result (λ x. length x.1.now < length tokens.now) }
@@ -380,7 +380,7 @@ pub fn mark_of(tokens: &[Token], mark: Mark) -> Result<(u32, &[Token]), ParseFau
 /// Reads a mark that opens a level, where so many may still be opened.
 ///
 /// Errors: `TooDeep` at the mark where none may be opened.
-#[tactic(auto, unfolding(crate::specs::Readers::open_at, crate::specs::Readers::mark_at))]
+#[tactic(auto, unfolding(job_tree::specs::Readers::open_at, job_tree::specs::Readers::mark_at))]
 pub fn open_of(tokens: &[Token], levels: u32, mark: Mark) -> Result<(Opened, &[Token]), ParseFault>
     ensures exact { Gives (λ x. (x.0, x.1.now)) result (open_at levels mark tokens.now) }
     ensures shorter { IfOk result (λ x. length x.1.now < length tokens.now) }
@@ -403,7 +403,7 @@ pub fn open_of(tokens: &[Token], levels: u32, mark: Mark) -> Result<(Opened, &[T
 }
 
 /// Reads the end of the text, with nothing behind it.
-#[tactic(auto, unfolding(crate::specs::Reading::end_at))]
+#[tactic(auto, unfolding(job_tree::specs::Reading::end_at))]
 pub fn end_of(tokens: &[Token]) -> Result<(), ParseFault>
     ensures exact { Gives (λ x. (tt, [])) result (end_at tokens.now) }
 {

@@ -2,9 +2,9 @@
 
 ghost use Rattle.std.specs.Prelude.{◌≡◌, ◌^◌, ◌<◌, ◌≤◌, ◌++◌, ◌-◌, IfOk, IfSome, length, min};
 ghost use Rattle.std.specs.List.{take_while};
-ghost use Rattle.chare_syntax.specs.Tokens.{tokens, EndsOnce, piece_at, piece_tokens, len_of, Fits, word_piece, number_piece, number_from, symbol_piece, pair_at, pair_mark, bracket_mark, operator_mark, is_blank, is_letter, is_digit, in_word, in_comment};
+ghost use Rattle.job_tree.specs.Tokens.{tokens, piece_at, piece_tokens, len_of, Fits, word_piece, number_piece, number_from, symbol_piece, pair_at, pair_mark, bracket_mark, operator_mark, is_blank, is_letter, is_digit, in_word, in_comment};
 
-use crate::token::{Kind, Mark, Num, Span, Token};
+use crate::token::{Kind, Mark, Num, Piece, Span, Token};
 use crate::words::reserved;
 use chare_bytes::memory::Memory;
 use std::alloc::Global;
@@ -12,19 +12,8 @@ use std::alloc::Global;
 /// The greatest number that a text may write.
 pub const GREATEST: u64 = 9_223_372_036_854_775_807;
 
-/// What stands at the front of a text, and how many bytes it has.
-#[derive(Clone, Copy, Debug, PartialEq, Eq)]
-enum Piece {
-    /// A blank, or a comment up to its line's end.
-    Blank(u32),
-    /// A token behind which the text is read on.
-    Token(Kind, u32),
-    /// A token behind which nothing is read.
-    Last(Kind),
-}
-
 /// The tokens of a text. The last one is `End`, with the text's length as its place, `Bad` or `TooLarge`.
-#[tactic(auto, unfolding(crate::specs::Tokens::tokens))]
+#[tactic(auto, unfolding(job_tree::specs::Tokens::tokens))]
 pub fn tokens(alloc: Global, text: &[u8]) -> Result<Vec<Token>, Memory>
     requires { length text.now < 2 ^ 32 }
     ensures { IfOk result (λ all. all.items ≡ tokens text.now) }
@@ -46,11 +35,6 @@ pub fn tokens(alloc: Global, text: &[u8]) -> Result<Vec<Token>, Memory>
     Ok(all)
 }
 
-/// The law that a text's tokens end once: the last one, and no other, is `End`, `Bad` or `TooLarge`.
-pub fn tokens_end_once()
-    ensures { EndsOnce }
-{}
-
 // Puts a piece's token at the end, and tells the piece's length unless the token is the last.
 fn add(all: &mut Vec<Token>, piece: Piece, at: u32) -> Result<Option<u32>, Memory>
     ensures { IfOk result (λ len. (len ≡ len_of piece) × (all.new.items ≡ all.old.items ++ piece_tokens piece at)) }
@@ -69,7 +53,7 @@ fn add(all: &mut Vec<Token>, piece: Piece, at: u32) -> Result<Option<u32>, Memor
 }
 
 // The piece at the front of a text that isn't empty.
-#[tactic(auto, unfolding(crate::specs::Tokens::piece_at), using(crate::proofs::Skips::take_passing))]
+#[tactic(auto, unfolding(job_tree::specs::Tokens::piece_at), using(crate::proofs::Skips::take_passing))]
 fn first_piece(at: u32, text: &[u8]) -> Option<Piece>
     requires { length text.now < 2 ^ 32 }
     ensures exact { result ≡ piece_at at text.now }
@@ -115,8 +99,8 @@ fn number_piece(at: u32, digits: &[u8]) -> Piece
     }
 }
 
-#[tactic(auto, using(crate::proofs::Skips::capped_next))]
 // The number that digits spell, or the type's greatest where it is above that.
+#[tactic(auto, using(crate::proofs::Skips::capped_next))]
 fn number_of(digits: &[u8]) -> u64
     ensures { result ≡ min (number_from 0 digits.now) (2 ^ 64 - 1) }
 {

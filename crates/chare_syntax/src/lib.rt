@@ -1,15 +1,14 @@
-//! The job language's text: its tokens, its grammar, and the tree that a text is read as.
+//! The reader of the job language: from a text to its tokens, and from these to the tree.
 //!
-//! The grammar is a function from a tree to the words that it is spelled by (`specs/Spelling`): each says the kind
-//! of a token, its place where the tree has it, and the level of nesting that it opens. `parse` answers the tree
-//! whose words a text's tokens are, exactly where there is one and it opens at most 32 levels. The checker reads the
-//! tree. Lists of the tree that the grammar wants non-empty are plain lists, and `specs/Accepted` asks that they
-//! have their items.
+//! `parse` answers the tree whose words a text's tokens are, exactly where there is one and it opens at most 32
+//! levels. What texts mean is defined in `job_tree`, whose modules `fault`, `token` and `tree` this crate gives on.
+//! Each rule of the grammar has a function, which follows the reader of `job_tree/specs/Reading`.
 #![tactic(auto)]
+
+pub use job_tree::{fault, token, tree};
 
 mod declarations;
 mod expressions;
-pub mod fault;
 mod leaves;
 pub mod lexer;
 mod numbers;
@@ -17,6 +16,4 @@ pub mod parse;
 pub mod reader;
 mod statements;
 mod steps;
-pub mod token;
-pub mod tree;
 pub mod words;

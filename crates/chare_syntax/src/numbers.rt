@@ -1,8 +1,8 @@
 //! Readers of numbers in their places. `levels` is how many levels of nesting may still be opened.
 
 ghost use Rattle.std.specs.Prelude.{◌≡◌, ◌<◌, ◌≤◌, length, IfOk};
-ghost use Rattle.chare_syntax.specs.Fault.{Gives};
-ghost use Rattle.chare_syntax.specs.Reading.{minus_at, signed_at, next_num_at, coordinates_at, next_signed_at, offset_at, cell_at, cells_at, count_at, counted_at};
+ghost use Rattle.job_tree.specs.Fault.{Gives};
+ghost use Rattle.job_tree.specs.Reading.{minus_at, signed_at, next_num_at, coordinates_at, next_signed_at, offset_at, cell_at, cells_at, count_at, counted_at};
 
 use crate::fault::ParseFault;
 use crate::leaves::{begins, mark_of, num_of, open_of};
@@ -10,7 +10,7 @@ use crate::token::{Mark, Num, Token};
 use crate::tree::{Coordinates, Offset, SignedNum};
 
 // Reads a minus, where there is one: its place.
-#[tactic(auto, unfolding(crate::specs::Reading::minus_at))]
+#[tactic(auto, unfolding(job_tree::specs::Reading::minus_at))]
 fn minus_of(tokens: &[Token]) -> Result<(Option<u32>, &[Token]), ParseFault>
     ensures exact { Gives (λ x. (x.0, x.1.now)) result (minus_at tokens.now) }
     ensures shorter { IfOk result (λ x. length x.1.now ≤ length tokens.now) }
@@ -23,7 +23,7 @@ fn minus_of(tokens: &[Token]) -> Result<(Option<u32>, &[Token]), ParseFault>
 }
 
 /// Reads a number with its sign.
-#[tactic(auto, unfolding(crate::specs::Reading::signed_at))]
+#[tactic(auto, unfolding(job_tree::specs::Reading::signed_at))]
 pub fn signed_of(tokens: &[Token]) -> Result<(SignedNum, &[Token]), ParseFault>
     ensures exact { Gives (λ x. (x.0, x.1.now)) result (signed_at tokens.now) }
     ensures shorter { IfOk result (λ x. length x.1.now < length tokens.now) }
@@ -34,7 +34,7 @@ pub fn signed_of(tokens: &[Token]) -> Result<(SignedNum, &[Token]), ParseFault>
 }
 
 // Reads a second number behind a comma, where there is one.
-#[tactic(auto, unfolding(crate::specs::Reading::next_num_at))]
+#[tactic(auto, unfolding(job_tree::specs::Reading::next_num_at))]
 fn next_num_of(tokens: &[Token]) -> Result<(Option<Num>, &[Token]), ParseFault>
     ensures exact { Gives (λ x. (x.0, x.1.now)) result (next_num_at tokens.now) }
     ensures shorter { IfOk result (λ x. length x.1.now ≤ length tokens.now) }
@@ -48,7 +48,7 @@ fn next_num_of(tokens: &[Token]) -> Result<(Option<Num>, &[Token]), ParseFault>
 }
 
 /// Reads sizes or coordinates in their brackets.
-#[tactic(auto, unfolding(crate::specs::Reading::coordinates_at))]
+#[tactic(auto, unfolding(job_tree::specs::Reading::coordinates_at))]
 pub fn coordinates_of(tokens: &[Token], levels: u32) -> Result<(Coordinates, &[Token]), ParseFault>
     ensures exact { Gives (λ x. (x.0, x.1.now)) result (coordinates_at levels tokens.now) }
     ensures shorter { IfOk result (λ x. length x.1.now < length tokens.now) }
@@ -61,7 +61,7 @@ pub fn coordinates_of(tokens: &[Token], levels: u32) -> Result<(Coordinates, &[T
 }
 
 // Reads a second number with its sign behind a comma, where there is one.
-#[tactic(auto, unfolding(crate::specs::Reading::next_signed_at))]
+#[tactic(auto, unfolding(job_tree::specs::Reading::next_signed_at))]
 fn next_signed_of(tokens: &[Token]) -> Result<(Option<SignedNum>, &[Token]), ParseFault>
     ensures exact { Gives (λ x. (x.0, x.1.now)) result (next_signed_at tokens.now) }
     ensures shorter { IfOk result (λ x. length x.1.now ≤ length tokens.now) }
@@ -75,7 +75,7 @@ fn next_signed_of(tokens: &[Token]) -> Result<(Option<SignedNum>, &[Token]), Par
 }
 
 /// Reads an offset in its brackets.
-#[tactic(auto, unfolding(crate::specs::Reading::offset_at))]
+#[tactic(auto, unfolding(job_tree::specs::Reading::offset_at))]
 pub fn offset_of(tokens: &[Token], levels: u32) -> Result<(Offset, &[Token]), ParseFault>
     ensures exact { Gives (λ x. (x.0, x.1.now)) result (offset_at levels tokens.now) }
     ensures shorter { IfOk result (λ x. length x.1.now < length tokens.now) }
@@ -88,7 +88,7 @@ pub fn offset_of(tokens: &[Token], levels: u32) -> Result<(Offset, &[Token]), Pa
 }
 
 // Reads a number in square brackets.
-#[tactic(auto, unfolding(crate::specs::Reading::cell_at))]
+#[tactic(auto, unfolding(job_tree::specs::Reading::cell_at))]
 fn cell_of(tokens: &[Token], levels: u32) -> Result<(Num, &[Token]), ParseFault>
     ensures exact { Gives (λ x. (x.0, x.1.now)) result (cell_at levels tokens.now) }
     ensures shorter { IfOk result (λ x. length x.1.now < length tokens.now) }
@@ -100,7 +100,7 @@ fn cell_of(tokens: &[Token], levels: u32) -> Result<(Num, &[Token]), ParseFault>
 }
 
 /// Reads a number in square brackets, where there is one.
-#[tactic(auto, unfolding(crate::specs::Reading::cells_at))]
+#[tactic(auto, unfolding(job_tree::specs::Reading::cells_at))]
 pub fn cells_of(tokens: &[Token], levels: u32) -> Result<(Option<Num>, &[Token]), ParseFault>
     ensures exact { Gives (λ x. (x.0, x.1.now)) result (cells_at levels tokens.now) }
     ensures shorter { IfOk result (λ x. length x.1.now ≤ length tokens.now) }
@@ -113,7 +113,7 @@ pub fn cells_of(tokens: &[Token], levels: u32) -> Result<(Option<Num>, &[Token])
 }
 
 // Reads a number in round brackets.
-#[tactic(auto, unfolding(crate::specs::Reading::count_at))]
+#[tactic(auto, unfolding(job_tree::specs::Reading::count_at))]
 fn count_of(tokens: &[Token], levels: u32) -> Result<(Num, &[Token]), ParseFault>
     ensures exact { Gives (λ x. (x.0, x.1.now)) result (count_at levels tokens.now) }
     ensures shorter { IfOk result (λ x. length x.1.now < length tokens.now) }
@@ -125,7 +125,7 @@ fn count_of(tokens: &[Token], levels: u32) -> Result<(Num, &[Token]), ParseFault
 }
 
 /// Reads a number in round brackets, where there is one.
-#[tactic(auto, unfolding(crate::specs::Reading::counted_at))]
+#[tactic(auto, unfolding(job_tree::specs::Reading::counted_at))]
 pub fn counted_of(tokens: &[Token], levels: u32) -> Result<(Option<Num>, &[Token]), ParseFault>
     ensures exact { Gives (λ x. (x.0, x.1.now)) result (counted_at levels tokens.now) }
     ensures shorter { IfOk result (λ x. length x.1.now ≤ length tokens.now) }

@@ -1,14 +1,15 @@
 //! A text, read as a job's tree.
 
 ghost use Rattle.std.specs.Prelude.{◌≡◌, ◌<◌, length, Err, IfOk, IfErr};
-ghost use Rattle.chare_syntax.specs.declared.fault.ParseFault.TheVariants as faults;
-ghost use Rattle.chare_syntax.specs.Text.{ReadsAs, ReadsAsNone, OneTree, TextFault};
+ghost use Rattle.job_tree.specs.declared.fault.ParseFault.TheVariants as faults;
+ghost use Rattle.job_tree.specs.Text.{ReadsAs, ReadsAsNone, TextFault};
 
 use crate::fault::ParseFault;
-use crate::lexer::{tokens, tokens_end_once};
+use crate::lexer::tokens;
 use crate::reader::read_job;
 use crate::tree::Ast;
 use chare_bytes::bytes::Bytes;
+use job_tree::laws::tokens_end_once;
 use std::alloc::Global;
 
 /// How many bytes a job's text may have.
@@ -39,8 +40,3 @@ pub fn parse(alloc: Global, text: &[u8]) -> Result<Ast, ParseFault>
         job,
     })
 }
-
-/// A text is that of one job at most.
-pub fn one_tree()
-    ensures { OneTree }
-{}

@@ -1,10 +1,10 @@
 //! A job from its tokens.
 
 ghost use Rattle.std.specs.Prelude.{◌≡◌, List, [], IfOk, IfErr, IsTrue};
-ghost use Rattle.chare_syntax.specs.declared.fault.ParseFault.TheVariants as faults;
-ghost use Rattle.chare_syntax.specs.Accepted.{IsJob, NoJob, OneJob, Ended, Faulty, is_shallow};
-ghost use Rattle.chare_syntax.specs.Fault.{Gives};
-ghost use Rattle.chare_syntax.specs.Reading.{text_at};
+ghost use Rattle.job_tree.specs.declared.fault.ParseFault.TheVariants as faults;
+ghost use Rattle.job_tree.specs.Accepted.{IsJob, NoJob, Ended, Faulty, is_shallow};
+ghost use Rattle.job_tree.specs.Fault.{Gives};
+ghost use Rattle.job_tree.specs.Reading.{text_at};
 
 use crate::declarations::job_of;
 use crate::fault::ParseFault;
@@ -32,7 +32,7 @@ pub fn read_job(alloc: Global, tokens: &[Token]) -> Result<Job, ParseFault>
 }
 
 // Reads a job and the end.
-#[tactic(auto, unfolding(crate::specs::Reading::text_at))]
+#[tactic(auto, unfolding(job_tree::specs::Reading::text_at))]
 fn text_of(alloc: Global, tokens: &[Token]) -> Result<Job, ParseFault>
     ensures exact { Gives (λ job. (job, [])) result (text_at 32 tokens.now) }
 {
@@ -40,8 +40,3 @@ fn text_of(alloc: Global, tokens: &[Token]) -> Result<Job, ParseFault>
     end_of(rest)?;
     Ok(job)
 }
-
-/// Tokens are those of one job at most.
-pub fn one_job()
-    ensures { OneJob }
-{}

@@ -1,10 +1,10 @@
 //! Readers of statements. `levels` is how many levels of nesting may still be opened.
 
 ghost use Rattle.std.specs.Prelude.{◌≡◌, ◌<◌, ◌≤◌, ◌+◌, length, IfOk};
-ghost use Rattle.chare_syntax.specs.declared.token.Mark.TheVariants as marks;
-ghost use Rattle.chare_syntax.specs.Fault.{Gives};
-ghost use Rattle.chare_syntax.specs.Readers.{is_mark, many, optional};
-ghost use Rattle.chare_syntax.specs.Reading.{deeper, inner, behind, index_with, expr_at, values_at, send_at, contribute_at, assign_at, block_with, else_with, if_with, for_with, stmt_with, statements_at, block_at};
+ghost use Rattle.job_tree.specs.declared.token.Mark.TheVariants as marks;
+ghost use Rattle.job_tree.specs.Fault.{Gives};
+ghost use Rattle.job_tree.specs.Readers.{is_mark, many, optional};
+ghost use Rattle.job_tree.specs.Reading.{deeper, inner, behind, index_with, expr_at, values_at, send_at, contribute_at, assign_at, block_with, else_with, if_with, for_with, stmt_with, statements_at, block_at};
 
 use crate::expressions::{expr_of, index_of};
 use crate::fault::ParseFault;
@@ -36,7 +36,7 @@ fn exprs_of(
 }
 
 // Reads values in their brackets.
-#[tactic(auto, unfolding(crate::specs::Reading::values_at))]
+#[tactic(auto, unfolding(job_tree::specs::Reading::values_at))]
 fn values_of(alloc: Global, tokens: &[Token], levels: u32) -> Result<(Values, &[Token]), ParseFault>
     ensures exact { Gives (λ x. (x.0, x.1.now)) result (values_at levels tokens.now) }
     ensures shorter { IfOk result (λ x. length x.1.now < length tokens.now) }
@@ -49,7 +49,7 @@ fn values_of(alloc: Global, tokens: &[Token], levels: u32) -> Result<(Values, &[
 }
 
 // Reads a send.
-#[tactic(auto, unfolding(crate::specs::Reading::send_at))]
+#[tactic(auto, unfolding(job_tree::specs::Reading::send_at))]
 fn send_of(alloc: Global, tokens: &[Token], levels: u32) -> Result<(StmtDecl, &[Token]), ParseFault>
     ensures exact { Gives (λ x. (x.0, x.1.now)) result (send_at levels tokens.now) }
     ensures shorter { IfOk result (λ x. length x.1.now < length tokens.now) }
@@ -69,7 +69,7 @@ fn send_of(alloc: Global, tokens: &[Token], levels: u32) -> Result<(StmtDecl, &[
 }
 
 // Reads a contribution.
-#[tactic(auto, unfolding(crate::specs::Reading::contribute_at))]
+#[tactic(auto, unfolding(job_tree::specs::Reading::contribute_at))]
 fn contribute_of(
     alloc: Global,
     tokens: &[Token],
@@ -103,7 +103,7 @@ fn target_index_of(
 }
 
 // Reads an assignment.
-#[tactic(auto, unfolding(crate::specs::Reading::assign_at))]
+#[tactic(auto, unfolding(job_tree::specs::Reading::assign_at))]
 fn assign_of(
     alloc: Global,
     tokens: &[Token],
@@ -126,7 +126,7 @@ fn assign_of(
 
 // Reads a statement.
 #[cycle(statement)]
-#[tactic(auto, unfolding(crate::specs::Reading::stmt_with))]
+#[tactic(auto, unfolding(job_tree::specs::Reading::stmt_with))]
 fn stmt_of(alloc: Global, tokens: &[Token], levels: u32) -> Result<(StmtDecl, &[Token]), ParseFault>
     ensures exact { Gives (λ x. (x.0, x.1.now)) result (stmt_with levels (inner levels) tokens.now) }
     ensures shorter { IfOk result (λ x. length x.1.now < length tokens.now) }
@@ -146,27 +146,22 @@ fn stmt_of(alloc: Global, tokens: &[Token], levels: u32) -> Result<(StmtDecl, &[
 
 // Reads an `if`, with its `else` where it has one.
 #[cycle(statement)]
-#[tactic(auto, unfolding(crate::specs::Reading::if_with))]
+#[tactic(auto, unfolding(job_tree::specs::Reading::if_with))]
 fn if_of(alloc: Global, tokens: &[Token], levels: u32) -> Result<(StmtDecl, &[Token]), ParseFault>
     ensures exact { Gives (λ x. (x.0, x.1.now)) result (if_with levels (inner levels) tokens.now) }
     ensures shorter { IfOk result (λ x. length x.1.now < length tokens.now) }
 {
     let (at, rest) = mark_of(tokens, Mark::If)?;
     let (test, rest) = expr_of(alloc, rest, levels)?;
-    let (block, rest) = block_of(alloc, rest, levels)?;
-    let (other, rest) = else_of(alloc, rest, levels)?;
-    let statement = StmtDecl::If {
-        at,
-        test,
-        block,
-        other,
-    };
+    let (yes, rest) = block_of(alloc, rest, levels)?;
+    let (no, rest) = else_of(alloc, rest, levels)?;
+    let statement = StmtDecl::If { at, test, yes, no };
     Ok((statement, rest))
 }
 
 // Reads `else` and its block, where there is one.
 #[cycle(statement)]
-#[tactic(auto, unfolding(crate::specs::Reading::else_with))]
+#[tactic(auto, unfolding(job_tree::specs::Reading::else_with))]
 fn else_of(
     alloc: Global,
     tokens: &[Token],
@@ -185,7 +180,7 @@ fn else_of(
 
 // Reads a `for`.
 #[cycle(statement)]
-#[tactic(auto, unfolding(crate::specs::Reading::for_with))]
+#[tactic(auto, unfolding(job_tree::specs::Reading::for_with))]
 fn for_of(alloc: Global, tokens: &[Token], levels: u32) -> Result<(StmtDecl, &[Token]), ParseFault>
     ensures exact { Gives (λ x. (x.0, x.1.now)) result (for_with levels (inner levels) tokens.now) }
     ensures shorter { IfOk result (λ x. length x.1.now < length tokens.now) }
@@ -209,7 +204,7 @@ fn for_of(alloc: Global, tokens: &[Token], levels: u32) -> Result<(StmtDecl, &[T
 
 /// Reads a block.
 #[cycle(statement)]
-#[tactic(auto, unfolding(crate::specs::Reading::block_with))]
+#[tactic(auto, unfolding(job_tree::specs::Reading::block_with))]
 pub fn block_of(
     alloc: Global,
     tokens: &[Token],

@@ -1,10 +1,10 @@
 //! Readers of steps. `levels` is how many levels of nesting may still be opened.
 
 ghost use Rattle.std.specs.Prelude.{◌≡◌, ◌<◌, ◌≤◌, length, IfOk};
-ghost use Rattle.chare_syntax.specs.declared.token.Mark.TheVariants as marks;
-ghost use Rattle.chare_syntax.specs.Fault.{Gives};
-ghost use Rattle.chare_syntax.specs.Readers.{is_mark, many};
-ghost use Rattle.chare_syntax.specs.Reading.{behind, name_at, names_at, part_at, parts_at, overlap_at, body_at, step_at, steps_at};
+ghost use Rattle.job_tree.specs.declared.token.Mark.TheVariants as marks;
+ghost use Rattle.job_tree.specs.Fault.{Gives};
+ghost use Rattle.job_tree.specs.Readers.{is_mark, many};
+ghost use Rattle.job_tree.specs.Reading.{behind, name_at, names_at, part_at, parts_at, overlap_at, body_at, step_at, steps_at};
 
 use crate::fault::ParseFault;
 use crate::leaves::{begins, mark_of, name_of, open_of};
@@ -31,7 +31,7 @@ fn more_names_of(alloc: Global, tokens: &[Token]) -> Result<(Items<Span>, &[Toke
 }
 
 // Reads names in their brackets.
-#[tactic(auto, unfolding(crate::specs::Reading::names_at))]
+#[tactic(auto, unfolding(job_tree::specs::Reading::names_at))]
 fn names_of(alloc: Global, tokens: &[Token], levels: u32) -> Result<(Names, &[Token]), ParseFault>
     ensures exact { Gives (λ x. (x.0, x.1.now)) result (names_at levels tokens.now) }
     ensures shorter { IfOk result (λ x. length x.1.now < length tokens.now) }
@@ -44,7 +44,7 @@ fn names_of(alloc: Global, tokens: &[Token], levels: u32) -> Result<(Names, &[To
 }
 
 // Reads a part.
-#[tactic(auto, unfolding(crate::specs::Reading::part_at))]
+#[tactic(auto, unfolding(job_tree::specs::Reading::part_at))]
 fn part_of(alloc: Global, tokens: &[Token], levels: u32) -> Result<(PartDecl, &[Token]), ParseFault>
     ensures exact { Gives (λ x. (x.0, x.1.now)) result (part_at levels tokens.now) }
     ensures shorter { IfOk result (λ x. length x.1.now < length tokens.now) }
@@ -63,7 +63,7 @@ fn part_of(alloc: Global, tokens: &[Token], levels: u32) -> Result<(PartDecl, &[
 }
 
 // Reads parts, of which there are two at least.
-#[tactic(auto, unfolding(crate::specs::Reading::parts_at))]
+#[tactic(auto, unfolding(job_tree::specs::Reading::parts_at))]
 fn parts_of(
     alloc: Global,
     tokens: &[Token],
@@ -86,7 +86,7 @@ fn parts_of(
 }
 
 // Reads an overlap.
-#[tactic(auto, unfolding(crate::specs::Reading::overlap_at))]
+#[tactic(auto, unfolding(job_tree::specs::Reading::overlap_at))]
 fn overlap_of(
     alloc: Global,
     tokens: &[Token],
@@ -103,7 +103,7 @@ fn overlap_of(
 }
 
 // Reads what stands behind the word `step`.
-#[tactic(auto, unfolding(crate::specs::Reading::body_at))]
+#[tactic(auto, unfolding(job_tree::specs::Reading::body_at))]
 fn body_of(alloc: Global, tokens: &[Token], levels: u32) -> Result<(StepBody, &[Token]), ParseFault>
     ensures exact { Gives (λ x. (x.0, x.1.now)) result (body_at levels tokens.now) }
     ensures shorter { IfOk result (λ x. length x.1.now < length tokens.now) }
@@ -120,7 +120,7 @@ fn body_of(alloc: Global, tokens: &[Token], levels: u32) -> Result<(StepBody, &[
 }
 
 // Reads a step.
-#[tactic(auto, unfolding(crate::specs::Reading::step_at))]
+#[tactic(auto, unfolding(job_tree::specs::Reading::step_at))]
 fn step_of(alloc: Global, tokens: &[Token], levels: u32) -> Result<(StepDecl, &[Token]), ParseFault>
     ensures exact { Gives (λ x. (x.0, x.1.now)) result (step_at levels tokens.now) }
     ensures shorter { IfOk result (λ x. length x.1.now < length tokens.now) }
@@ -131,7 +131,7 @@ fn step_of(alloc: Global, tokens: &[Token], levels: u32) -> Result<(StepDecl, &[
 }
 
 /// Reads steps, of which there is one at least.
-#[tactic(auto, unfolding(crate::specs::Reading::steps_at))]
+#[tactic(auto, unfolding(job_tree::specs::Reading::steps_at))]
 pub fn steps_of(
     alloc: Global,
     tokens: &[Token],

@@ -2,12 +2,12 @@
 
 ghost use Rattle.std.specs.Prelude.{◌≡◌};
 ghost use Rattle.std.specs.Str.{bytes_eq};
-ghost use Rattle.chare_syntax.specs.Words.{structure_word, statement_word, value_word, reserved};
+ghost use Rattle.job_tree.specs.Words.{structure_word, statement_word, value_word, reserved};
 
 use crate::token::Mark;
 
 /// The mark that a word is reserved for, where it is.
-#[tactic(auto, unfolding(crate::specs::Words::reserved))]
+#[tactic(auto, unfolding(job_tree::specs::Words::reserved))]
 pub fn reserved(word: &[u8]) -> Option<Mark>
     ensures { result ≡ reserved word.now }
 {

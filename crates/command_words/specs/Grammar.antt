@@ -6,20 +6,25 @@ use Rattle.command_words.specs.declared.command.Command.{Command}
 use Rattle.command_words.specs.declared.command.Command.TheVariants.{Drill}
 use Rattle.command_words.specs.declared.command.Given.{Given}
 use Rattle.command_words.specs.declared.command.OptionName.{OptionName}
-use Rattle.command_words.specs.declared.command.OptionName.TheVariants.{Nodes, Schedule}
+use Rattle.command_words.specs.declared.command.OptionName.TheVariants.{Nodes, Every, Schedule}
 use Rattle.command_words.specs.declared.words.Reading.{Reading}
 use Rattle.command_words.specs.Numbers.{number_in}
 
 -- ---- options
 
 abbrev pub none_given : Given
-none_given = record { nodes = None; schedule = None }
+none_given = record { nodes = None; every = None; schedule = None }
 
 -- an option is given once, in its range
 abbrev pub given_nodes : Given → Option ℕ → Option ℕ → Option Given
 given_nodes given None (Some n) = Some (record given { nodes = Some n })
 given_nodes given None None = None
 given_nodes given (Some old) n = None
+
+abbrev pub given_every : Given → Option ℕ → Option ℕ → Option Given
+given_every given None (Some n) = Some (record given { every = Some n })
+given_every given None None = None
+given_every given (Some old) n = None
 
 abbrev pub given_schedule : Given → Option ℕ → Option ℕ → Option Given
 given_schedule given None (Some n) = Some (record given { schedule = Some n })
@@ -28,6 +33,7 @@ given_schedule given (Some old) n = None
 
 abbrev pub given_with : Given → OptionName → List ℕ → Option Given
 given_with given Nodes text = given_nodes given given.nodes (number_in 1 32 text)
+given_with given Every text = given_every given given.every (number_in 1 1000000 text)
 given_with given Schedule text = given_schedule given given.schedule (number_in 0 (2 ^ 64 - 1) text)
 
 -- what stands behind a prefix
@@ -52,16 +58,21 @@ abbrev pub joined_schedule : Given → Option (List ℕ) → Read
 joined_schedule given None = None
 joined_schedule given (Some text) = given_so (given_with given Schedule text)
 
+abbrev pub joined_every : Given → List ℕ → Option (List ℕ) → Read
+joined_every given word None = joined_schedule given (behind (codes "--schedule=") word)
+joined_every given word (Some text) = given_so (given_with given Every text)
+
 abbrev pub joined_nodes : Given → List ℕ → Option (List ℕ) → Read
-joined_nodes given word None = joined_schedule given (behind (codes "--schedule=") word)
+joined_nodes given word None = joined_every given word (behind (codes "--every=") word)
 joined_nodes given word (Some text) = given_so (given_with given Nodes text)
 
 -- an option's name, alone or with its value
 abbrev pub option_read : Given → List ℕ → Read
 option_read given word =
     if bytes_eq word (codes "--nodes") then waiting given Nodes
+    else (if bytes_eq word (codes "--every") then waiting given Every
     else (if bytes_eq word (codes "--schedule") then waiting given Schedule
-    else joined_nodes given word (behind (codes "--nodes=") word))
+    else joined_nodes given word (behind (codes "--nodes=") word)))
 
 abbrev pub word_read_by : Given → Option OptionName → List ℕ → Read
 word_read_by given (Some name) word = given_so (given_with given name word)
@@ -81,7 +92,7 @@ words_read read (word ∷ more) = words_read (next_read read word) more
 -- ---- the command
 
 abbrev pub drill_with : Given → Command
-drill_with given = Drill (record { nodes = unwrap_or given.nodes 1; every = 10; spares = 0; mode = Strong }) (unwrap_or given.schedule 0)
+drill_with given = Drill (record { nodes = unwrap_or given.nodes 1; every = unwrap_or given.every 10; spares = 0; mode = Strong }) (unwrap_or given.schedule 0)
 
 abbrev pub finished : Option OptionName → Given → Option Command
 finished None given = Some (drill_with given)
@@ -100,7 +111,14 @@ command_in (word ∷ more) = if bytes_eq word (codes "drill") then command_from 
 
 -- its options are within their limits
 abbrev pub Bounded : Command → Type 0
-Bounded (Drill o schedule) = (1 ≤ o.nodes) × (o.nodes ≤ 32)
+Bounded (Drill o schedule) = (1 ≤ o.nodes) × (o.nodes ≤ 32) × (1 ≤ o.every) × (o.every ≤ 1000000)
 
 abbrev pub NodesFit : Option ℕ → Type 0
 NodesFit nodes = IfSome nodes (λ n. (1 ≤ n) × (n ≤ 32))
+
+abbrev pub EveryFit : Option ℕ → Type 0
+EveryFit every = IfSome every (λ n. (1 ≤ n) × (n ≤ 1000000))
+
+-- what was given is within its limits
+abbrev pub Fit : Given → Type 0
+Fit given = NodesFit given.nodes × EveryFit given.every

@@ -1,7 +1,7 @@
 //! Commands, and the options that they were given.
 
 ghost use Rattle.std.specs.Prelude.{◌≡◌};
-ghost use Rattle.command_words.specs.Grammar.{Bounded, NodesFit, drill_with};
+ghost use Rattle.command_words.specs.Grammar.{Bounded, Fit, drill_with};
 
 use chare_base::options::{Mode, Options};
 
@@ -17,6 +17,8 @@ pub enum Command {
 pub enum OptionName {
     /// `--nodes`: nodes of each replica, from 1 to 32; 1 where it isn't given.
     Nodes,
+    /// `--every`: iterations from one checkpoint to the next, at least, from 1 to 1,000,000; 10 where it isn't given.
+    Every,
     /// `--schedule`: which events the drill picks, up to 2^64 - 1; 0 where it isn't given.
     Schedule,
 }
@@ -25,6 +27,7 @@ pub enum OptionName {
 #[derive(Clone, Copy, Debug, PartialEq, Eq)]
 pub struct Given {
     pub nodes: Option<u64>,
+    pub every: Option<u64>,
     pub schedule: Option<u64>,
 }
 
@@ -32,19 +35,20 @@ impl Given {
     /// No option.
     pub const NONE: Given = Given {
         nodes: None,
+        every: None,
         schedule: None,
     };
 
     /// The drill with these options, each other one at its default.
     pub(crate) fn drill(self) -> Command
-        requires { NodesFit self.nodes }
+        requires { Fit self }
         ensures exact { result ≡ drill_with self }
         ensures bounded { Bounded result }
     {
         Command::Drill {
             options: Options {
                 nodes: self.nodes.unwrap_or(1) as u16,
-                every: 10,
+                every: self.every.unwrap_or(10),
                 spares: 0,
                 mode: Mode::Strong,
             },

@@ -2,7 +2,7 @@
 //!
 //! `command_of` reads the words; its contract is the definition of the command grammar in `specs/Grammar`, a fold over
 //! the words. An option is two words, `--name value`, or one, `--name=value`; each stands at most once, in any order.
-//! The top call stands on this crate.
+//! `command::OptionName` tells the options, their limits and their defaults. The top call stands on this crate.
 #![tactic(auto)]
 
 pub mod command;

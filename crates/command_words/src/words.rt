@@ -2,7 +2,7 @@
 
 ghost use Rattle.std.specs.Prelude.{◌≡◌, map, IfSome, MatchOption, None, Some};
 ghost use Rattle.std.specs.String.{string_bytes};
-ghost use Rattle.command_words.specs.Grammar.{Bounded, NodesFit, behind, command_in, given_nodes, given_schedule, given_with, next_read, option_read, word_read, words_read};
+ghost use Rattle.command_words.specs.Grammar.{Bounded, EveryFit, Fit, NodesFit, behind, command_in, given_every, given_nodes, given_schedule, given_with, next_read, option_read, word_read, words_read};
 
 use crate::command::{Command, Given, OptionName};
 use crate::number::number_in;
@@ -33,8 +33,8 @@ pub fn command_of(words: &[String]) -> Option<Command>
 
 // Reads the words behind the command.
 fn read_all(words: &[String]) -> Option<Reading>
-    ensures exact { result ≡ words_read (Some (record { given = record { nodes = None; schedule = None }; waits = None })) (map string_bytes words.now) }
-    ensures fits { IfSome result (λ r. NodesFit r.given.nodes) }
+    ensures exact { result ≡ words_read (Some (record { given = record { nodes = None; every = None; schedule = None }; waits = None })) (map string_bytes words.now) }
+    ensures fits { IfSome result (λ r. Fit r.given) }
 {
     let mut reading = given(Given::NONE);
     for word in words {
@@ -45,18 +45,18 @@ fn read_all(words: &[String]) -> Option<Reading>
 
 // Reads one word more, where no earlier one was refused.
 fn read_next(reading: Option<Reading>, word: &[u8]) -> Option<Reading>
-    requires { IfSome reading (λ r. NodesFit r.given.nodes) }
+    requires { IfSome reading (λ r. Fit r.given) }
     ensures exact { result ≡ next_read reading word.now }
-    ensures fits { IfSome result (λ r. NodesFit r.given.nodes) }
+    ensures fits { IfSome result (λ r. Fit r.given) }
 {
     read_word(reading?, word)
 }
 
 // Reads one word: an option's value, or an option.
 fn read_word(reading: Reading, word: &[u8]) -> Option<Reading>
-    requires { NodesFit reading.given.nodes }
+    requires { Fit reading.given }
     ensures exact { result ≡ word_read reading word.now }
-    ensures fits { IfSome result (λ r. NodesFit r.given.nodes) }
+    ensures fits { IfSome result (λ r. Fit r.given) }
 {
     match reading.waits {
         Some(name) => given(give(reading.given, name, word)?),
@@ -66,18 +66,24 @@ fn read_word(reading: Reading, word: &[u8]) -> Option<Reading>
 
 // An option's name, alone or with its value.
 fn read_option(so_far: Given, word: &[u8]) -> Option<Reading>
-    requires { NodesFit so_far.nodes }
+    requires { Fit so_far }
     ensures exact { result ≡ option_read so_far word.now }
-    ensures fits { IfSome result (λ r. NodesFit r.given.nodes) }
+    ensures fits { IfSome result (λ r. Fit r.given) }
 {
     if word == b"--nodes".as_slice() {
         return awaits(so_far, OptionName::Nodes);
+    }
+    if word == b"--every".as_slice() {
+        return awaits(so_far, OptionName::Every);
     }
     if word == b"--schedule".as_slice() {
         return awaits(so_far, OptionName::Schedule);
     }
     if let Some(text) = behind(b"--nodes=", word) {
         return given(give(so_far, OptionName::Nodes, text)?);
+    }
+    if let Some(text) = behind(b"--every=", word) {
+        return given(give(so_far, OptionName::Every, text)?);
     }
     let text = behind(b"--schedule=", word)?;
     given(give(so_far, OptionName::Schedule, text)?)
@@ -102,39 +108,59 @@ fn given(given: Given) -> Option<Reading>
 
 // An option's value: None where the option was given before, or the value isn't in its range.
 fn give(given: Given, name: OptionName, text: &[u8]) -> Option<Given>
-    requires { NodesFit given.nodes }
+    requires { Fit given }
     ensures exact { result ≡ given_with given name text.now }
-    ensures fits { IfSome result (λ g. NodesFit g.nodes) }
+    ensures fits { IfSome result Fit }
 {
     match name {
         OptionName::Nodes => give_nodes(given, number_in(1, 32, text)),
+        OptionName::Every => give_every(given, number_in(1, 1_000_000, text)),
         OptionName::Schedule => give_schedule(given, number_in(0, u64::MAX, text)),
     }
 }
 
 fn give_nodes(given: Given, number: Option<u64>) -> Option<Given>
-    requires { NodesFit number }
+    requires given { Fit given }
+    requires number { NodesFit number }
     ensures exact { result ≡ given_nodes given given.nodes number }
-    ensures fits { IfSome result (λ g. NodesFit g.nodes) }
+    ensures fits { IfSome result Fit }
 {
     match given.nodes {
         Some(_) => None,
         None => Some(Given {
             nodes: Some(number?),
+            every: given.every,
+            schedule: given.schedule,
+        }),
+    }
+}
+
+fn give_every(given: Given, number: Option<u64>) -> Option<Given>
+    requires given { Fit given }
+    requires number { EveryFit number }
+    ensures exact { result ≡ given_every given given.every number }
+    ensures fits { IfSome result Fit }
+{
+    match given.every {
+        Some(_) => None,
+        None => Some(Given {
+            nodes: given.nodes,
+            every: Some(number?),
             schedule: given.schedule,
         }),
     }
 }
 
 fn give_schedule(given: Given, number: Option<u64>) -> Option<Given>
-    requires { NodesFit given.nodes }
+    requires { Fit given }
     ensures exact { result ≡ given_schedule given given.schedule number }
-    ensures fits { IfSome result (λ g. NodesFit g.nodes) }
+    ensures fits { IfSome result Fit }
 {
     match given.schedule {
         Some(_) => None,
         None => Some(Given {
             nodes: given.nodes,
+            every: given.every,
             schedule: Some(number?),
         }),
     }

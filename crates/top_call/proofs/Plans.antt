@@ -2,16 +2,17 @@
 use Rattle.std.proofs.Common.{◌≡◌, ℕ, List, [], ap, sym, refl, ◌∙◌, subst, codes, length, ◌≤◌, Some, Result, Ok, Err, IfOk, inl, inr}
 use Rattle.chare_base.specs.declared.memory.Memory.{Memory}
 use Rattle.chare_base.specs.declared.plan.Plan.{Plan}
-use Rattle.chare_checker.specs.declared.fault.CheckFault.{CheckFault}
-use Rattle.chare_checker.specs.declared.fault.CheckFault.TheVariants as checks
-use Rattle.chare_checker.specs.Accepted.{IsPlan, IsRefused, RefusedHasNone}
-use Rattle.chare_checker.specs.Checked.{Checks, first_fault, plan_of}
-use Rattle.chare_checker.specs.Faults.{place_of}
-use Rattle.chare_checker.specs.Wording.{fault_code, parse_code, parse_place, wording}
-use Rattle.chare_syntax.specs.declared.fault.ParseFault.{ParseFault}
-use Rattle.chare_syntax.specs.declared.fault.ParseFault.TheVariants as parses
-use Rattle.chare_syntax.specs.declared.tree.Job.{Job as Tree}
-use Rattle.chare_syntax.specs.Text.{ReadsAs, ReadsAsNone, TextFault}
+use Rattle.job_rules.specs.declared.fault.CheckFault.{CheckFault}
+use Rattle.job_rules.specs.declared.fault.CheckFault.TheVariants as checks
+use Rattle.job_rules.specs.Accepted.{IsPlan, IsRefused, RefusedHasNone}
+use Rattle.job_rules.specs.Checked.{Checks, first_fault, plan_of}
+use Rattle.job_rules.specs.Faults.{place_of}
+use Rattle.job_rules.specs.Codes.{fault_code, parse_code, parse_place}
+use Rattle.chare_checker.specs.Wording.{wording}
+use Rattle.job_tree.specs.declared.fault.ParseFault.{ParseFault}
+use Rattle.job_tree.specs.declared.fault.ParseFault.TheVariants as parses
+use Rattle.job_tree.specs.declared.tree.Job.{Job as Tree}
+use Rattle.job_tree.specs.Text.{ReadsAs, ReadsAsNone, TextFault}
 use Rattle.run_ledger.specs.declared.record.Record.{Record}
 use Rattle.run_ledger.specs.Lawful.{Lawful}
 use Rattle.chare_base.specs.declared.options.Options.{Options}

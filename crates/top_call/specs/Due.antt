@@ -11,7 +11,7 @@ use Rattle.chare_base.specs.declared.options.Options.{Options}
 use Rattle.chare_base.specs.declared.plan.Plan.{Plan}
 use Rattle.chare_base.specs.Elements.{elements}
 use Rattle.chare_checker.specs.declared.wording.Wording.{Wording}
-use Rattle.chare_checker.specs.Accepted.{HasNoPlan, IsPlan, IsRefused}
+use Rattle.job_rules.specs.Accepted.{HasNoPlan, IsPlan, IsRefused}
 use Rattle.chare_checker.specs.Wording.{word_of, wording}
 use Rattle.command_words.specs.declared.command.Command.{Command}
 use Rattle.command_words.specs.declared.command.Command.TheVariants.{Drill}

@@ -1,15 +1,28 @@
-//! The conductor's moves on the agreement.
+//! The conductor's events: it hears a letter, or makes the move on the agreement that it wants.
 
-ghost use Rattle.std.specs.Prelude.{◌≡◌, ◌≤◌, true};
-ghost use Rattle.iteration_agree.specs.Cuts.{HasSlot};
+ghost use Rattle.std.specs.Prelude.{◌≡◌, ◌≤◌, ◌||◌, Bool, List, length, true, OnOk};
+ghost use Rattle.std.specs.List.{AllByRecursion};
+ghost use Rattle.chare_base.specs.Elements.{elements};
+ghost use Rattle.conductor_core.specs.Conductors.{IsOf, conductor_did, wanted};
 ghost use Rattle.conductor_core.specs.Conductors.{sight_of as last_sight};
+ghost use Rattle.fault_script.specs.declared.fault.Fault.{Fault};
+ghost use Rattle.iteration_agree.specs.Cuts.{CutState, HasSlot};
+ghost use Rattle.world_core.specs.Steps.{Renews, setting};
+ghost use Rattle.world_core.specs.Worlds.{conductor_made, conductor_moved, did_in, saw_in, told_by};
 ghost use Rattle.world_core.specs.Worlds.{any_news, has_slot, is_gather, is_news, is_quiet, move_due, names_replica, news_below, same_cap, sight_in, takes_move};
 
+use crate::inbox::Inbox;
+use crate::posts::{deliver, renew_all};
+use crate::slot::Slot;
+use chare_base::memory::Memory;
+use chare_base::placement::Placement;
+use chare_base::plan::Plan;
 use chare_base::slots::SlotId;
 use conductor_core::conductor::Conductor;
-use conductor_core::wants::CutMove;
+use conductor_core::wants::{CutAnswer, CutMove};
 use iteration_agree::cut::Cut;
 use iteration_agree::round::{Round, Sight, Taking, number};
+use std::alloc::Global;
 
 /// Whether the agreement takes a move of the conductor.
 pub fn takes_move(cut: &Cut, wanted: CutMove) -> bool
@@ -89,9 +102,16 @@ fn news_below(cut: &Cut, conductor: &Conductor, replica: u8) -> bool
 {
     let mut news = false;
     for node in 0..cut.nodes() {
-        news = news || is_news_of(cut, conductor, SlotId { replica, node });
+        let slot = SlotId { replica, node };
+        news = either(news, is_news_of(cut, conductor, slot));
     }
     news
+}
+
+fn either(a: bool, b: bool) -> bool
+    ensures { result ≡ (a || b) }
+{
+    a || b
 }
 
 fn is_news_of(cut: &Cut, conductor: &Conductor, slot: SlotId) -> bool
@@ -118,4 +138,110 @@ fn same_cap(a: Option<u64>, b: Option<u64>) -> bool
         (Some(a), Some(b)) => a == b,
         _ => false,
     }
+}
+
+// ---- events
+
+/// The conductor hears its first letter, where there is one, and what it sends goes to inboxes.
+///
+/// `Memory`: an allocation was refused; the conductor and the slots are of no further use.
+pub fn hear_at_desk<M: Placement>(
+    alloc: Global,
+    plan: &Plan,
+    map: &M,
+    conductor: &mut Conductor,
+    slots: &mut Vec<Slot>,
+    desk: &mut Inbox,
+) -> Result<(), Memory>
+    requires { IsOf (M.count map.now) conductor.old }
+    ensures { (script : List Fault) (cut : CutState) (over : Bool) → OnOk result (record { posts = record { slots = slots.new.items; desk = desk.new }; cut = cut; conductor = conductor.new; over = over } ≡ told_by (setting plan.now script (M.place map.now) (M.count map.now)) (record { posts = record { slots = slots.old.items; desk = desk.old }; cut = cut; conductor = conductor.old; over = over }) desk.old) }
+{
+    if let Some(letter) = desk.take() {
+        let out = conductor.hear(alloc, plan, map, letter)?;
+        deliver(map.nodes(), out, slots, desk)?;
+    }
+    Ok(())
+}
+
+/// The conductor makes the move that it wants, where the agreement takes it, and what it sends goes to inboxes.
+///
+/// `Memory`: an allocation was refused; the conductor and the slots are of no further use.
+pub fn move_conductor<M: Placement>(
+    alloc: Global,
+    plan: &Plan,
+    map: &M,
+    cut: &mut Cut,
+    conductor: &mut Conductor,
+    slots: &mut Vec<Slot>,
+    desk: &mut Inbox,
+) -> Result<(), Memory>
+    requires place { length (M.place map.now) ≡ elements plan.now }
+    requires nodes { IsOf (M.count map.now) conductor.old }
+    requires renews { AllByRecursion (Renews plan.now cut.old) slots.old.items }
+    ensures { (script : List Fault) (over : Bool) → OnOk result (record { posts = record { slots = slots.new.items; desk = desk.new }; cut = cut.new; conductor = conductor.new; over = over } ≡ conductor_moved (setting plan.now script (M.place map.now) (M.count map.now)) (record { posts = record { slots = slots.old.items; desk = desk.old }; cut = cut.old; conductor = conductor.old; over = over }) (wanted conductor.old)) }
+{
+    let wanted = conductor.wants();
+    if takes_move(cut, wanted) {
+        make_move(alloc, plan, map, wanted, cut, conductor, slots, desk)?;
+    }
+    Ok(())
+}
+
+// It makes a move that the agreement takes.
+fn make_move<M: Placement>(
+    alloc: Global,
+    plan: &Plan,
+    map: &M,
+    wanted: CutMove,
+    cut: &mut Cut,
+    conductor: &mut Conductor,
+    slots: &mut Vec<Slot>,
+    desk: &mut Inbox,
+) -> Result<(), Memory>
+    requires place { length (M.place map.now) ≡ elements plan.now }
+    requires nodes { IsOf (M.count map.now) conductor.old }
+    requires renews { AllByRecursion (Renews plan.now cut.old) slots.old.items }
+    requires takes { takes_move cut.old wanted ≡ true }
+    ensures { (script : List Fault) (over : Bool) → OnOk result (record { posts = record { slots = slots.new.items; desk = desk.new }; cut = cut.new; conductor = conductor.new; over = over } ≡ conductor_made (setting plan.now script (M.place map.now) (M.count map.now)) (record { posts = record { slots = slots.old.items; desk = desk.old }; cut = cut.old; conductor = conductor.old; over = over }) wanted) }
+{
+    let answer = match wanted {
+        CutMove::None => return Ok(()),
+        CutMove::Look { slot } => CutAnswer::Seen(cut.note(slot)),
+        CutMove::OpenRound { floor } => {
+            cut.open_round(floor);
+            renew_all(plan, cut, slots)?;
+            CutAnswer::Nothing
+        }
+        CutMove::Note { slot } => CutAnswer::Seen(cut.note(slot)),
+        CutMove::Agree { taking } => {
+            let agreed = cut.agree(taking);
+            renew_all(plan, cut, slots)?;
+            CutAnswer::Agreed(agreed)
+        }
+        CutMove::Quiet => {
+            cut.quiet();
+            renew_all(plan, cut, slots)?;
+            CutAnswer::Nothing
+        }
+    };
+    answered(alloc, plan, map, answer, conductor, slots, desk)
+}
+
+// It hears what its move was answered, and its letters go to inboxes.
+fn answered<M: Placement>(
+    alloc: Global,
+    plan: &Plan,
+    map: &M,
+    answer: CutAnswer,
+    conductor: &mut Conductor,
+    slots: &mut Vec<Slot>,
+    desk: &mut Inbox,
+) -> Result<(), Memory>
+    requires place { length (M.place map.now) ≡ elements plan.now }
+    requires nodes { IsOf (M.count map.now) conductor.old }
+    ensures { (script : List Fault) (cut : CutState) (over : Bool) → OnOk result (record { posts = record { slots = slots.new.items; desk = desk.new }; cut = cut; conductor = conductor.new; over = over } ≡ did_in (setting plan.now script (M.place map.now) (M.count map.now)) (conductor_did plan.now (M.place map.now) answer conductor.old) (record { posts = record { slots = slots.old.items; desk = desk.old }; cut = cut; conductor = conductor.old; over = over })) }
+{
+    let out = conductor.did(alloc, plan, map, answer)?;
+    deliver(map.nodes(), out, slots, desk)?;
+    Ok(())
 }

@@ -22,6 +22,7 @@ use chare_base::placement::{BlockMap, Placement};
 use chare_base::plan::Plan;
 use chare_base::slots::SlotId;
 use conductor_core::ending::Ending;
+use conductor_core::laws::conductors_tell;
 use fault_script::script::Script;
 use std::alloc::Global;
 
@@ -48,6 +49,7 @@ pub fn drill(
     ensures still { result ≡ Err DrillFault.Still → (drilled plan.now script.now options.now schedule).conductor.outcome ≡ None }
     ensures lawful { IfOk result (λ ending. IsEnding plan.now (faults_of script.now) options.now ending) }
 {
+    conductors_tell();
     let map = BlockMap {
         elements: plan.elements(),
         nodes: options.nodes,

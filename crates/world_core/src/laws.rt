@@ -2,7 +2,7 @@
 
 ghost use Rattle.world_core.specs.Sound.{EveryEventKeeps, EveryWorldIsSound, SoundServes, StartIsSound};
 
-use conductor_core::laws::{conductors_tell, moves_fit_the_round};
+use conductor_core::laws::conductors_tell;
 use iteration_agree::laws::{cuts_hold, moves_are_local};
 use letter_post::laws::chains_grow;
 use node_core::laws::nodes_keep;
@@ -17,7 +17,6 @@ pub fn worlds_are_sound()
 {
     nodes_keep();
     conductors_tell();
-    moves_fit_the_round();
     cuts_hold();
     moves_are_local();
     chains_grow();

@@ -149,7 +149,8 @@ pub fn slot_event(plan: &Plan, nodes: u16, cut: &Cut, slots: &[Slot], slot: Slot
     requires { AllByRecursion (Fresh plan.now cut.now) slots.now }
     ensures { result ≡ slot_event plan.now cut.now slot (slot_at nodes slots.now slot) }
 {
-    let _ = (plan, cut);
+    let _ = plan;
+    let _ = cut;
     match find(nodes, slots, slot) {
         Some(i) => event_of(slot, slots[i].doing()),
         None => None,

@@ -1,19 +1,16 @@
 //! A slot with its inbox.
 
-ghost use Rattle.std.specs.Prelude.{◌≡◌, ◌==◌, ◌&&◌, ◌++◌, ◌∷◌, [], ℕ, length, true, OnOk, IfOk, Some, None};
+ghost use Rattle.std.specs.Prelude.{◌≡◌, ◌==◌, ◌&&◌, ◌++◌, ◌∷◌, [], ℕ, List, length, true, OnOk, IfOk, Some, None};
 ghost use Rattle.chare_base.specs.Elements.{elements};
 ghost use Rattle.fault_script.specs.Lines.{faults_of};
 ghost use Rattle.iteration_agree.specs.Cuts.{HasSlot, packed_by, slot_of};
-ghost use Rattle.iteration_agree.specs.Under.{MayPack};
-ghost use Rattle.node_core.specs.Keeps.{Fitted};
-ghost use Rattle.node_core.specs.Nodes.{first_running, node_packed, node_ran, out_of, outcome_of};
+ghost use Rattle.node_core.specs.Nodes.{first_running, node_packed, out_of};
 ghost use Rattle.node_core.specs.Starts.{start_state};
 ghost use Rattle.world_core.specs.declared.doing.Since.TheVariants.{Nothing};
 ghost use Rattle.world_core.specs.declared.doing.SlotMove.TheVariants.{Pack};
-ghost use Rattle.world_core.specs.Moves.{move_of};
 ghost use Rattle.world_core.specs.Sound.{Served};
-ghost use Rattle.world_core.specs.Steps.{Fresh, Renews, can_hear, can_move, can_run_on, setting};
-ghost use Rattle.world_core.specs.Worlds.{MayMove, acted, back_by, run_due, shifted, with_back, again, back_after, does, doing_of, idle_doing, moved_in, ordered_after, renewed, resumed_after, seats_of, since_after, slot_heard, slot_move, slot_moved, slot_moved_by, slot_put, slot_ran, stand};
+ghost use Rattle.world_core.specs.Steps.{Fresh, Renews, can_hear, can_run_on, setting};
+ghost use Rattle.world_core.specs.Worlds.{MayMove, acted, back_by, run_due, shifted, with_back, again, back_after, does, doing_of, idle_doing, moved_in, ordered_after, renewed, resumed_after, seats_of, since_after, slot_heard, slot_move, slot_moved, slot_moved_by, slot_put, slot_ran};
 
 use crate::doing::{Doing, Since, SlotMove};
 use crate::inbox::Inbox;

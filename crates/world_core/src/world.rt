@@ -1,23 +1,19 @@
 //! The world of a run.
 
-ghost use Rattle.std.specs.Prelude.{◌≡◌, ◌↔◌, ℕ, List, [], length, true, false, Err, OnOk, IfOk, OnErr, MatchOption, is_some, None, Some, IfSome, IsNone};
+ghost use Rattle.std.specs.Prelude.{◌≡◌, ◌≤◌, ◌↔◌, ℕ, List, [], length, true, false, Err, OnOk, IfOk, OnErr, MatchOption, is_some, None, Some, IfSome, IsNone};
 ghost use Rattle.std.specs.List.{AllByRecursion};
 ghost use Rattle.chare_base.specs.Elements.{elements};
 ghost use Rattle.fault_script.specs.Lines.{faults_of};
-ghost use Rattle.conductor_core.specs.Conductors.{IsOf, conductor_did};
-ghost use Rattle.fault_script.specs.declared.fault.Fault.{Fault};
-ghost use Rattle.iteration_agree.specs.Cuts.{HasSlot};
-ghost use Rattle.world_core.specs.Steps.{Renews};
 ghost use Rattle.world_core.specs.Sound.{Serves};
 ghost use Rattle.world_core.specs.Steps.{Fresh, can_act, is_enabled, setting};
-ghost use Rattle.world_core.specs.Worlds.{by_slot, conductor_due, conductor_made, desk_event, did_in, does, enabled, happens, opening_world, saw_in, slot_at, takes_move};
+ghost use Rattle.world_core.specs.Worlds.{by_slot, conductor_due, desk_event, does, enabled, happens, opening_world, slot_at};
 
-use crate::conducting::{move_due, takes_move};
+use crate::conducting::{hear_at_desk, move_conductor, move_due, takes_move};
 use crate::doing::Doing;
 use crate::event::{Actor, Event};
 use crate::fault::StepFault;
 use crate::inbox::Inbox;
-use crate::posts::{act_at, can_act, deliver, renew_all, slot_event, start_slots};
+use crate::posts::{act_at, can_act, slot_event, start_slots};
 use crate::slot::Slot;
 use chare_base::memory::Memory;
 use chare_base::options::Options;
@@ -26,7 +22,6 @@ use chare_base::plan::Plan;
 use chare_base::slots::SlotId;
 use conductor_core::conductor::Conductor;
 use conductor_core::ending::Ending;
-use conductor_core::wants::{CutAnswer, CutMove};
 use fault_script::script::Script;
 use iteration_agree::cut::Cut;
 use std::alloc::Global;
@@ -212,21 +207,23 @@ impl World {
             }
             Event::Hear { slot } => self.slot_acts(alloc, plan, script, map, slot, Doing::Hear),
             Event::Move { slot } => self.slot_acts(alloc, plan, script, map, slot, Doing::Move),
-            Event::ConductorHear => match self.desk.take() {
-                Some(letter) => {
-                    let out = self.conductor.hear(alloc, plan, map, letter)?;
-                    deliver(map.nodes(), out, &mut self.slots, &mut self.desk)
-                }
-                None => Ok(()),
-            },
-            Event::ConductorMove => {
-                let wanted = self.conductor.wants();
-                if takes_move(&self.cut, wanted) {
-                    self.make_move(alloc, plan, map, wanted)
-                } else {
-                    Ok(())
-                }
-            }
+            Event::ConductorHear => hear_at_desk(
+                alloc,
+                plan,
+                map,
+                &mut self.conductor,
+                &mut self.slots,
+                &mut self.desk,
+            ),
+            Event::ConductorMove => move_conductor(
+                alloc,
+                plan,
+                map,
+                &mut self.cut,
+                &mut self.conductor,
+                &mut self.slots,
+                &mut self.desk,
+            ),
         }
     }
 
@@ -254,75 +251,6 @@ impl World {
             &mut self.slots,
             &mut self.desk,
         )
-    }
-
-    // The conductor makes a move that the agreement takes.
-    fn make_move<M: Placement>(
-        &mut self,
-        alloc: Global,
-        plan: &Plan,
-        map: &M,
-        wanted: CutMove,
-    ) -> Result<(), Memory>
-        requires place { length (M.place map.now) ≡ elements plan.now }
-        requires nodes { IsOf (M.count map.now) self.old.conductor }
-        requires renews { AllByRecursion (Renews plan.now self.old.cut) self.old.posts.slots }
-        requires takes { takes_move self.old.cut wanted ≡ true }
-        ensures { (script : List Fault) → OnOk result (self.new ≡ conductor_made (setting plan.now script (M.place map.now) (M.count map.now)) self.old wanted) }
-    {
-        match wanted {
-            CutMove::None => Ok(()),
-            CutMove::Look { slot } => self.see(alloc, plan, map, slot),
-            CutMove::OpenRound { floor } => {
-                self.cut.open_round(floor);
-                renew_all(plan, &self.cut, &mut self.slots)?;
-                self.did(alloc, plan, map, CutAnswer::Nothing)
-            }
-            CutMove::Note { slot } => self.see(alloc, plan, map, slot),
-            CutMove::Agree { taking } => {
-                let agreed = self.cut.agree(taking);
-                renew_all(plan, &self.cut, &mut self.slots)?;
-                self.did(alloc, plan, map, CutAnswer::Agreed(agreed))
-            }
-            CutMove::Quiet => {
-                self.cut.quiet();
-                renew_all(plan, &self.cut, &mut self.slots)?;
-                self.did(alloc, plan, map, CutAnswer::Nothing)
-            }
-        }
-    }
-
-    // The conductor sees a slot, whose cap is noted where the round gathers.
-    fn see<M: Placement>(
-        &mut self,
-        alloc: Global,
-        plan: &Plan,
-        map: &M,
-        slot: SlotId,
-    ) -> Result<(), Memory>
-        requires place { length (M.place map.now) ≡ elements plan.now }
-        requires nodes { IsOf (M.count map.now) self.old.conductor }
-        requires slot { HasSlot self.old.cut slot }
-        ensures { (script : List Fault) → OnOk result (self.new ≡ saw_in (setting plan.now script (M.place map.now) (M.count map.now)) slot self.old) }
-    {
-        let sight = self.cut.note(slot);
-        self.did(alloc, plan, map, CutAnswer::Seen(sight))
-    }
-
-    // The conductor hears what its move was answered, and its letters go to inboxes.
-    fn did<M: Placement>(
-        &mut self,
-        alloc: Global,
-        plan: &Plan,
-        map: &M,
-        answer: CutAnswer,
-    ) -> Result<(), Memory>
-        requires place { length (M.place map.now) ≡ elements plan.now }
-        requires nodes { IsOf (M.count map.now) self.old.conductor }
-        ensures { (script : List Fault) → OnOk result (self.new ≡ did_in (setting plan.now script (M.place map.now) (M.count map.now)) (conductor_did plan.now (M.place map.now) answer self.old.conductor) self.old) }
-    {
-        let out = self.conductor.did(alloc, plan, map, answer)?;
-        deliver(map.nodes(), out, &mut self.slots, &mut self.desk)
     }
 
     /// What the run leaves; None exactly where it hasn't ended. The world is given up then too. It takes no memory.

@@ -1,17 +1,18 @@
 //! The plans of answers, over the plans of the arrays.
 
 ghost use Rattle.std.specs.Prelude.{◌≡◌, IfOk, map};
-ghost use Rattle.chare_checker.specs.PlannedAnswers.{answer_planned, array_meant, cell_in, cell_written, element_in, element_or_none, index_written};
+ghost use Rattle.job_rules.specs.PlannedAnswers.{answer_planned, array_meant, cell_in, cell_written, element_in, element_or_none, index_written};
 
+use crate::numbers::{narrow32, number16};
 use crate::planning::lookups::{member, range_meant, range_or_none, state_meant};
 use crate::planning::members::plan_how;
-use crate::planning::numbers::{narrow32, number16};
-use crate::tables::{JobNames, array_number};
+use crate::tables::array_number;
 use chare_base::memory::Memory;
 use chare_base::plan::{Answer, Array, ElementId};
 use chare_base::range::Range;
-use chare_syntax::token::Num;
-use chare_syntax::tree::{AnswerDecl, Coordinates};
+use job_rules::tables::JobNames;
+use job_tree::token::Num;
+use job_tree::tree::{AnswerDecl, Coordinates};
 use sqlite_items::Items;
 use std::alloc::Global;
 

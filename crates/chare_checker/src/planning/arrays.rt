@@ -1,18 +1,19 @@
 //! The plans of arrays and their states.
 
 ghost use Rattle.std.specs.Prelude.{◌≡◌, IfOk};
-ghost use Rattle.chare_checker.specs.PlannedArrays.{array_planned, array_with, arrays_from, cols_planned, rows_planned, size_planned, state_planned, states_planned};
+ghost use Rattle.job_rules.specs.PlannedArrays.{array_planned, array_with, arrays_from, cols_planned, rows_planned, size_planned, state_planned, states_planned};
 
-use crate::names::{Names, bytes_at};
+use crate::numbers::narrow32;
 use crate::planning::expressions::plan_expr;
-use crate::planning::lookups::Scope;
-use crate::planning::numbers::narrow32;
 use crate::planning::steps::plan_steps;
-use crate::tables::{JobNames, cells_written};
+use crate::tables::cells_written;
+use crate::walk::Scope;
 use chare_base::bytes::Name;
 use chare_base::memory::Memory;
 use chare_base::plan::{Array, State};
-use chare_syntax::tree::{ArrayDecl, Coordinates, StateDecl};
+use job_rules::names::{Names, bytes_at};
+use job_rules::tables::JobNames;
+use job_tree::tree::{ArrayDecl, Coordinates, StateDecl};
 use sqlite_items::Items;
 use std::alloc::Global;
 

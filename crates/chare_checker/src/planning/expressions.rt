@@ -1,17 +1,18 @@
 //! The plan of an expression.
 
 ghost use Rattle.std.specs.Prelude.{◌≡◌, IfOk, map};
-ghost use Rattle.chare_checker.specs.PlannedExpressions.{add_op, all_of, any_of, atom_planned, chosen, compare_op, conj_planned, expr_planned, factor_planned, here, local, mul_op, name_planned, place_planned, placed, product_of, product_planned, sum_of, sum_planned, term_planned, test_planned, unary_planned, value_planned, values_planned};
-ghost use Rattle.chare_checker.specs.Names.{local_named};
-ghost use Rattle.chare_checker.specs.PlannedNames.{range_or_none, state_range};
+ghost use Rattle.job_rules.specs.PlannedExpressions.{add_op, all_of, any_of, atom_planned, chosen, compare_op, conj_planned, expr_planned, factor_planned, here, local, mul_op, name_planned, place_planned, placed, product_of, product_planned, sum_of, sum_planned, term_planned, test_planned, unary_planned, value_planned, values_planned};
+ghost use Rattle.job_rules.specs.Names.{local_named};
+ghost use Rattle.job_rules.specs.PlannedNames.{range_or_none, state_range};
 
-use crate::names::local_named;
-use crate::planning::lookups::{Scope, range_or_none, state_range};
-use crate::planning::numbers::{narrow8, narrow63};
+use crate::numbers::{narrow8, narrow63};
+use crate::planning::lookups::{range_or_none, state_range};
+use crate::walk::Scope;
 use chare_base::expression::{AddOp, CompareOp, Expr, Factor, MulOp, Term};
 use chare_base::memory::Memory;
-use chare_syntax::token::Span;
-use chare_syntax::tree::{
+use job_rules::names::local_named;
+use job_tree::token::Span;
+use job_tree::tree::{
     self, Atom, Choice, Conj, Here, Product, ProductTerm, Sum, SumTerm, Test, Unary, Values,
 };
 use sqlite_items::{Boxed, Items};
@@ -243,7 +244,7 @@ fn plan_cell(
 }
 
 /// The plan of a statement's expression.
-#[tactic(auto, unfolding(crate::specs::PlannedExpressions::value_planned))]
+#[tactic(auto, unfolding(job_rules::specs::PlannedExpressions::value_planned))]
 pub(crate) fn plan_value(
     alloc: Global,
     scope: &Scope<'_>,
@@ -257,7 +258,7 @@ pub(crate) fn plan_value(
 }
 
 /// The place of a cell, where the text has an index.
-#[tactic(auto, unfolding(crate::specs::PlannedExpressions::place_planned))]
+#[tactic(auto, unfolding(job_rules::specs::PlannedExpressions::place_planned))]
 pub(crate) fn plan_place(
     alloc: Global,
     scope: &Scope<'_>,
@@ -273,7 +274,7 @@ pub(crate) fn plan_place(
 }
 
 /// The plans of values that are sent.
-#[tactic(auto, unfolding(crate::specs::PlannedExpressions::values_planned))]
+#[tactic(auto, unfolding(job_rules::specs::PlannedExpressions::values_planned))]
 pub(crate) fn plan_values(
     alloc: Global,
     scope: &Scope<'_>,

@@ -1,26 +1,18 @@
 //! What a name of the tree stands for in a plan. A name of nothing has the greatest number.
 
 ghost use Rattle.std.specs.Prelude.{◌≡◌};
-ghost use Rattle.chare_checker.specs.PlannedNames.{entry_meant, member, port_meant, range_meant, range_or_none, reduction_meant, state_meant, state_range};
+ghost use Rattle.job_rules.specs.PlannedNames.{entry_meant, member, port_meant, range_meant, range_or_none, reduction_meant, state_meant, state_range};
 
-use crate::names::{Meaning, Names, bytes_at};
-use crate::planning::numbers::{narrow16, narrow32};
-use crate::tables::{JobNames, array_number};
+use crate::numbers::{narrow16, narrow32};
+use crate::tables::{array_number, meant_in};
 use chare_base::message::{EntryId, Port, ReductionId};
 use chare_base::range::Range;
-use chare_syntax::token::Span;
-
-/// What names stand for within a part: the names of the job and of the part's array, and the part's parameters.
-#[derive(Clone, Copy)]
-pub(crate) struct Scope<'a> {
-    pub(crate) text: &'a [u8],
-    pub(crate) names: &'a JobNames,
-    pub(crate) table: &'a Names,
-    pub(crate) params: &'a [Span],
-}
+use job_rules::names::{Meaning, Names, bytes_at};
+use job_rules::tables::JobNames;
+use job_tree::token::Span;
 
 /// The cells of the state of this name, if it is a state's.
-#[tactic(auto, unfolding(crate::specs::PlannedNames::state_range))]
+#[tactic(auto, unfolding(job_rules::specs::PlannedNames::state_range))]
 pub(crate) fn state_range(text: &[u8], table: &Names, name: Span) -> Option<Range>
     ensures { result ≡ state_range text.now table.now name }
 {
@@ -97,15 +89,10 @@ pub(crate) fn port_meant(meaning: Option<Meaning>) -> Port
 }
 
 /// What a name means behind the name of an array and a dot.
-#[tactic(auto, unfolding(crate::specs::PlannedNames::member, crate::specs::Names::lookup))]
+#[tactic(auto, unfolding(job_rules::specs::PlannedNames::member))]
 pub(crate) fn member(text: &[u8], names: &JobNames, array: Span, name: Span) -> Option<Meaning>
     ensures { result ≡ member text.now names.now array name }
 {
-    match array_number(text, &names.arrays, array) {
-        Some(number) => match names.tables.get(number) {
-            Some(table) => table.get(bytes_at(text, name)),
-            None => None,
-        },
-        None => None,
-    }
+    let number = array_number(text, &names.arrays, array);
+    meant_in(names, number, bytes_at(text, name))
 }

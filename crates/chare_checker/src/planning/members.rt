@@ -1,15 +1,15 @@
 //! The plans of entries and reductions, numbered over the whole job in text order.
 
 ghost use Rattle.std.specs.Prelude.{◌≡◌, ◌++◌, IfOk, OnOk};
-ghost use Rattle.chare_checker.specs.PlannedMembers.{across_written, down_written, edge_planned, entries_from, entries_of, entry_of, entry_planned, how_planned, reduction_of, reduction_planned, reductions_from, reductions_of};
+ghost use Rattle.job_rules.specs.PlannedMembers.{across_written, down_written, edge_planned, entries_from, entries_of, entry_of, entry_planned, how_planned, reduction_of, reduction_planned, reductions_from, reductions_of};
 
-use crate::names::{Names, bytes_at};
-use crate::planning::numbers::{narrow8, narrow16, number16, signed8, signed64};
+use crate::numbers::{narrow8, narrow16, number16, signed8, signed64};
 use crate::tables::{array_number, values_written};
 use chare_base::bytes::Name;
 use chare_base::memory::Memory;
 use chare_base::plan::{Edge, Entry, How, Reduction};
-use chare_syntax::tree::{self, ArrayDecl, EdgeDecl, EntryDecl, MemberDecl, Offset, ReduceDecl};
+use job_rules::names::{Names, bytes_at};
+use job_tree::tree::{self, ArrayDecl, EdgeDecl, EntryDecl, MemberDecl, Offset, ReduceDecl};
 use sqlite_items::Items;
 use std::alloc::Global;
 

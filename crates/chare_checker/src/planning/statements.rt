@@ -3,24 +3,23 @@
 ghost use Rattle.std.specs.Prelude.{◌≡◌, ◌++◌, ◌∷◌, [], IfOk, OnOk, length, map};
 ghost use Rattle.std.specs.Option.{option_map};
 ghost use Rattle.chare_base.specs.declared.plan.Stmt.TheVariants as stmts;
-ghost use Rattle.chare_checker.specs.Names.{bytes_at, lookup};
-ghost use Rattle.chare_checker.specs.PlannedExpressions.{place_planned, value_planned, values_planned};
-ghost use Rattle.chare_checker.specs.PlannedNames.{entry_meant, member, range_or_none, reduction_meant, state_range};
-ghost use Rattle.chare_checker.specs.PlannedNumbers.{narrow8, signed64};
-ghost use Rattle.chare_checker.specs.PlannedStatements.{assigned, block_planned, each_planned, other_planned, stmt_planned};
+ghost use Rattle.job_rules.specs.Names.{bytes_at, lookup};
+ghost use Rattle.job_rules.specs.PlannedExpressions.{place_planned, value_planned, values_planned};
+ghost use Rattle.job_rules.specs.PlannedNames.{entry_meant, member, range_or_none, reduction_meant, state_range};
+ghost use Rattle.job_rules.specs.Numbers.{narrow8, signed64};
+ghost use Rattle.job_rules.specs.PlannedStatements.{assigned, block_planned, each_planned, other_planned, stmt_planned};
 
-use crate::names::bytes_at;
+use crate::numbers::{narrow8, signed64};
 use crate::planning::expressions::{plan_place, plan_value, plan_values};
-use crate::planning::lookups::{
-    Scope, entry_meant, member, range_or_none, reduction_meant, state_range,
-};
-use crate::planning::numbers::{narrow8, signed64};
+use crate::planning::lookups::{entry_meant, member, range_or_none, reduction_meant, state_range};
+use crate::walk::Scope;
 use chare_base::expression::Expr;
 use chare_base::memory::Memory;
 use chare_base::plan::Stmt;
 use chare_base::range::Range;
-use chare_syntax::token::Span;
-use chare_syntax::tree::{self, Block, SignedNum, StmtDecl, Values};
+use job_rules::names::bytes_at;
+use job_tree::token::Span;
+use job_tree::tree::{self, Block, SignedNum, StmtDecl, Values};
 use sqlite_items::Items;
 use std::alloc::Global;
 
@@ -71,15 +70,10 @@ fn plan_stmt(
             index,
             value,
         } => plan_assign(alloc, scope, loops, *target, index, value),
-        StmtDecl::If {
-            test,
-            block,
-            other,
-            ..
-        } => {
+        StmtDecl::If { test, yes, no, .. } => {
             let test = plan_value(alloc, scope, loops, test)?;
-            let yes = plan_block(alloc, scope, loops, block)?;
-            let no = plan_other(alloc, scope, loops, other)?;
+            let yes = plan_block(alloc, scope, loops, yes)?;
+            let no = plan_other(alloc, scope, loops, no)?;
             Ok(Stmt::If { test, yes, no })
         }
         StmtDecl::For {

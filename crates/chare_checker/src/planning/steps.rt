@@ -1,17 +1,18 @@
 //! The plan of a step.
 
 ghost use Rattle.std.specs.Prelude.{◌≡◌, ◌∷◌, [], IfOk, map};
-ghost use Rattle.chare_checker.specs.PlannedSteps.{body_planned, free_part, names_listed, part_planned, step_planned};
+ghost use Rattle.job_rules.specs.PlannedSteps.{body_planned, free_part, part_planned, step_planned};
 
-use crate::names::{Names, bytes_at};
-use crate::planning::lookups::{Scope, port_meant};
+use crate::planning::lookups::port_meant;
 use crate::planning::statements::plan_block;
-use crate::tables::JobNames;
+use crate::walk::Scope;
 use chare_base::memory::Memory;
 use chare_base::message::Need;
 use chare_base::plan::{Part, Step};
-use chare_syntax::token::Span;
-use chare_syntax::tree::{self, Block, PartDecl, StepBody, StepDecl};
+use job_rules::names::{Names, bytes_at, names_listed};
+use job_rules::tables::JobNames;
+use job_tree::token::Span;
+use job_tree::tree::{Block, PartDecl, StepBody, StepDecl};
 use sqlite_items::Items;
 use std::alloc::Global;
 
@@ -131,13 +132,4 @@ fn plan_part(
         need: Need::Port(port),
         block,
     })
-}
-
-fn names_listed(alloc: Global, names: &tree::Names) -> Result<Vec<Span>, Memory>
-    ensures { IfOk result (λ listed. listed.items ≡ names_listed names.now) }
-{
-    let mut listed = Vec::new(alloc);
-    listed.push(names.first)?;
-    listed.extend_from_slice(names.others.as_slice())?;
-    Ok(listed)
 }

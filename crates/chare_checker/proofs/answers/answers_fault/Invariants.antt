@@ -1,6 +1,6 @@
 use Rattle.std.proofs.Common.{◌≡◌, drop}
-use Rattle.chare_checker.specs.Answers.{answer_fault}
-use Rattle.chare_checker.specs.Faults.{first_of}
+use Rattle.job_rules.specs.Answers.{answer_fault}
+use Rattle.job_rules.specs.Faults.{first_of}
 use Rattle.chare_checker.proofs.answers.answers_fault.Given as goal
 
 abbrev pub invariant-loop-answer : goal.invariant-loop-answer

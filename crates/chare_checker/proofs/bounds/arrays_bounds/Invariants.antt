@@ -1,5 +1,5 @@
 use Rattle.std.proofs.Common.{◌≡◌, drop}
-use Rattle.chare_checker.specs.Bounds.{arrays_bounds}
+use Rattle.job_rules.specs.Bounds.{arrays_bounds}
 use Rattle.chare_checker.proofs.bounds.arrays_bounds.Given as goal
 
 abbrev pub invariant-loop-array : goal.invariant-loop-array

@@ -1,6 +1,6 @@
 use Rattle.std.proofs.Common.{◌≡◌, drop}
-use Rattle.chare_checker.specs.Bounds.{state_bound}
-use Rattle.chare_checker.specs.Faults.{first_of}
+use Rattle.job_rules.specs.Bounds.{state_bound}
+use Rattle.job_rules.specs.Faults.{first_of}
 use Rattle.chare_checker.proofs.bounds.states_bounds.Given as goal
 
 abbrev pub invariant-loop-state : goal.invariant-loop-state

@@ -1,5 +1,5 @@
 use Rattle.std.proofs.Common.{◌∙◌}
-use Rattle.chare_checker.specs.Planned.{fields_in}
+use Rattle.chare_checker.specs.Gathered.{fields_in}
 use Rattle.chare_checker.proofs.Checks.{Seen, broken, kept, plan_is, sound}
 use Rattle.chare_checker.proofs.check.check.Goals as goal
 
@@ -12,7 +12,7 @@ pub sealed-requires : goal.sealed-requires
 sealed-requires c =
     let seen : Seen c.args.ast.now.text c.as_slice-text.result.now c.args.ast.now.job c.in_ok-names.names c.in_ok-fault.field-0 = (c.as_slice-text.ensures, c.in_ok-names.ensures, c.in_ok-fault.ensures) in
     kept c.args.ast.now.text c.as_slice-text.result.now c.args.ast.now.job c.in_ok-names.names c.in_ok-fault.field-0 (fields_in c.in_ok-plan_job-in-None.field-0)
-    seen c.in-None.is c.in_ok-plan_job-in-None.ensures c.args.ast.now.shallow c.args.ast.now.named c.args.ast.now.filled
+    c.unbroken_is_sealed.ensures seen c.in-None.is c.in_ok-plan_job-in-None.ensures c.args.ast.now.shallow c.args.ast.now.named c.args.ast.now.filled
 
 pub returns : goal.returns
 returns c =

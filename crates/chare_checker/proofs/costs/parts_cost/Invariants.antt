@@ -1,5 +1,5 @@
 use Rattle.std.proofs.Common.{◌≡◌, drop}
-use Rattle.chare_checker.specs.Costs.{parts_cost}
+use Rattle.job_rules.specs.Costs.{parts_cost}
 use Rattle.chare_checker.proofs.costs.parts_cost.Given as goal
 
 abbrev pub invariant-loop-part : goal.invariant-loop-part

@@ -1,6 +1,6 @@
 use Rattle.std.proofs.Common.{◌≡◌, drop}
-use Rattle.chare_checker.specs.Declarations.{arrays_found}
-use Rattle.chare_checker.specs.Tables.{no_counts}
+use Rattle.job_rules.specs.Declarations.{arrays_found}
+use Rattle.job_rules.specs.Tables.{no_counts}
 use Rattle.chare_checker.proofs.declarations.arrays_fault.Given as goal
 
 abbrev pub invariant-loop-number : goal.invariant-loop-number

@@ -1,5 +1,5 @@
 use Rattle.std.proofs.Common.{◌≡◌, drop}
-use Rattle.chare_checker.specs.Declarations.{states_found}
+use Rattle.job_rules.specs.Declarations.{states_found}
 use Rattle.chare_checker.proofs.declarations.states_fault.Given as goal
 
 abbrev pub invariant-loop-number : goal.invariant-loop-number

@@ -1,5 +1,5 @@
 use Rattle.std.proofs.Common.{◌≡◌, drop}
-use Rattle.chare_checker.specs.Limits.{arrays_over}
+use Rattle.job_rules.specs.Limits.{arrays_over}
 use Rattle.chare_checker.proofs.limits.arrays_over.Given as goal
 
 abbrev pub invariant-loop-i : goal.invariant-loop-i

@@ -1,5 +1,5 @@
 use Rattle.std.proofs.Common.{◌≡◌, drop}
-use Rattle.chare_checker.specs.Limits.{states_over}
+use Rattle.job_rules.specs.Limits.{states_over}
 use Rattle.chare_checker.proofs.limits.states_over.Given as goal
 
 abbrev pub invariant-loop-i : goal.invariant-loop-i

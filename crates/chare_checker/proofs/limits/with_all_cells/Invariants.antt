@@ -1,5 +1,5 @@
 use Rattle.std.proofs.Common.{◌≡◌, drop}
-use Rattle.chare_checker.specs.Limits.{with_all_cells}
+use Rattle.job_rules.specs.Limits.{with_all_cells}
 use Rattle.chare_checker.proofs.limits.with_all_cells.Given as goal
 
 abbrev pub invariant-loop-state : goal.invariant-loop-state

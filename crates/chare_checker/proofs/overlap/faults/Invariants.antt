@@ -1,6 +1,6 @@
 use Rattle.std.proofs.Common.{◌≡◌, drop}
-use Rattle.chare_checker.specs.Faults.{first_of}
-use Rattle.chare_checker.specs.Overlap.{use_fault}
+use Rattle.job_rules.specs.Faults.{first_of}
+use Rattle.job_rules.specs.Overlap.{use_fault}
 use Rattle.chare_checker.proofs.overlap.faults.Given as goal
 
 abbrev pub invariant-loop-state_use : goal.invariant-loop-state_use

@@ -1,5 +1,5 @@
 use Rattle.std.proofs.Common.{◌≡◌, drop}
-use Rattle.chare_checker.specs.Overlap.{all_marked}
+use Rattle.chare_checker.specs.FirstUses.{all_marked}
 use Rattle.chare_checker.proofs.overlap.mark_all.Given as goal
 
 abbrev pub invariant-loop-state_use : goal.invariant-loop-state_use

@@ -1,5 +1,5 @@
 use Rattle.std.proofs.Common.{length, subst, sym, ap, ◌∙◌}
-use Rattle.chare_checker.specs.Overlap.{Tells, all_marked}
+use Rattle.chare_checker.specs.FirstUses.{Tells, all_marked}
 use Rattle.chare_checker.proofs.FirstParts.{tells}
 use Rattle.chare_checker.proofs.overlap.mark_first.Goals as goal
 

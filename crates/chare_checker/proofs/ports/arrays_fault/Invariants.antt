@@ -1,6 +1,6 @@
 use Rattle.std.proofs.Common.{◌≡◌, drop}
-use Rattle.chare_checker.specs.Ports.{arrays_found}
-use Rattle.chare_checker.specs.Tables.{no_counts}
+use Rattle.job_rules.specs.Ports.{arrays_found}
+use Rattle.job_rules.specs.Tables.{no_counts}
 use Rattle.chare_checker.proofs.ports.arrays_fault.Given as goal
 
 abbrev pub invariant-loop-array : goal.invariant-loop-array

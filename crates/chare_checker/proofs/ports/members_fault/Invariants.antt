@@ -1,5 +1,5 @@
 use Rattle.std.proofs.Common.{◌≡◌, drop}
-use Rattle.chare_checker.specs.Ports.{members_found}
+use Rattle.job_rules.specs.Ports.{members_found}
 use Rattle.chare_checker.proofs.ports.members_fault.Given as goal
 
 abbrev pub invariant-loop-member : goal.invariant-loop-member

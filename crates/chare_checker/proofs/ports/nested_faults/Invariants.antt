@@ -1,6 +1,6 @@
 use Rattle.std.proofs.Common.{◌≡◌, drop}
-use Rattle.chare_checker.specs.Faults.{first_of}
-use Rattle.chare_checker.specs.Ports.{nested_fault, uses_of}
+use Rattle.job_rules.specs.Faults.{first_of}
+use Rattle.job_rules.specs.Ports.{nested_fault, uses_of}
 use Rattle.chare_checker.proofs.ports.nested_faults.Given as goal
 
 abbrev pub invariant-loop-send : goal.invariant-loop-send

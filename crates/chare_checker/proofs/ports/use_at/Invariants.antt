@@ -1,5 +1,5 @@
 use Rattle.std.proofs.Common.{◌≡◌, drop, slice_get}
-use Rattle.chare_checker.specs.Ports.{uses_of}
+use Rattle.job_rules.specs.Ports.{uses_of}
 use Rattle.chare_checker.proofs.ports.use_at.Given as goal
 
 abbrev pub invariant-loop-port_use : goal.invariant-loop-port_use

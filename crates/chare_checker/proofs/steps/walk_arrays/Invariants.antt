@@ -1,5 +1,5 @@
 use Rattle.std.proofs.Common.{◌≡◌, drop}
-use Rattle.chare_checker.specs.Steps.{arrays_walked}
+use Rattle.job_rules.specs.Steps.{arrays_walked}
 use Rattle.chare_checker.proofs.steps.walk_arrays.Given as goal
 
 abbrev pub invariant-loop-number : goal.invariant-loop-number

@@ -1,5 +1,5 @@
 use Rattle.std.proofs.Common.{◌≡◌, drop}
-use Rattle.chare_checker.specs.Steps.{parts_walked}
+use Rattle.job_rules.specs.Steps.{parts_walked}
 use Rattle.chare_checker.proofs.steps.walk_parts.Given as goal
 
 abbrev pub invariant-loop-number : goal.invariant-loop-number

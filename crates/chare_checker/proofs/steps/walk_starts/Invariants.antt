@@ -1,5 +1,5 @@
 use Rattle.std.proofs.Common.{◌≡◌, drop}
-use Rattle.chare_checker.specs.Steps.{starts_walked}
+use Rattle.job_rules.specs.Steps.{starts_walked}
 use Rattle.chare_checker.proofs.steps.walk_starts.Given as goal
 
 abbrev pub invariant-loop-state : goal.invariant-loop-state

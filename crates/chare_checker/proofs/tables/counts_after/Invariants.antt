@@ -1,5 +1,5 @@
 use Rattle.std.proofs.Common.{◌≡◌, drop}
-use Rattle.chare_checker.specs.Tables.{counts_after}
+use Rattle.job_rules.specs.Tables.{counts_after}
 use Rattle.chare_checker.proofs.tables.counts_after.Given as goal
 
 abbrev pub invariant-loop-member : goal.invariant-loop-member

@@ -1,5 +1,5 @@
 use Rattle.std.proofs.Common.{◌≡◌, [], drop}
-use Rattle.chare_checker.specs.Tables.{arrays_named}
+use Rattle.job_rules.specs.Tables.{arrays_named}
 use Rattle.chare_checker.proofs.tables.name_arrays.Given as goal
 
 abbrev pub invariant-loop-number : goal.invariant-loop-number

@@ -1,5 +1,5 @@
 use Rattle.std.proofs.Common.{◌≡◌, ◌++◌, drop}
-use Rattle.chare_checker.specs.Tables.{no_counts, tables_from}
+use Rattle.job_rules.specs.Tables.{no_counts, tables_from}
 use Rattle.chare_checker.proofs.tables.name_members.Given as goal
 
 abbrev pub invariant-loop-array : goal.invariant-loop-array

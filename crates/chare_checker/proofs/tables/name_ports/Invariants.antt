@@ -1,5 +1,5 @@
 use Rattle.std.proofs.Common.{◌≡◌, drop}
-use Rattle.chare_checker.specs.Tables.{ports_named}
+use Rattle.job_rules.specs.Tables.{ports_named}
 use Rattle.chare_checker.proofs.tables.name_ports.Given as goal
 
 abbrev pub invariant-loop-member : goal.invariant-loop-member

@@ -1,5 +1,5 @@
 use Rattle.std.proofs.Common.{◌≡◌, drop}
-use Rattle.chare_checker.specs.Tables.{states_named}
+use Rattle.job_rules.specs.Tables.{states_named}
 use Rattle.chare_checker.proofs.tables.name_states.Given as goal
 
 abbrev pub invariant-loop-number : goal.invariant-loop-number

@@ -1,9 +1,9 @@
 use Rattle.std.proofs.Common.{arith}
-use Rattle.chare_syntax.specs.declared.token.Mark.TheVariants as marks
-use Rattle.chare_syntax.specs.Readers.{is_mark}
-use Rattle.chare_syntax.specs.Reading.{array_at, arrays_at}
-use Rattle.chare_syntax.proofs.Loops.{loop_next}
-use Rattle.chare_syntax.proofs.OfDeclarations.{array_shrinks}
+use Rattle.job_tree.specs.declared.token.Mark.TheVariants as marks
+use Rattle.job_tree.specs.Readers.{is_mark}
+use Rattle.job_tree.specs.Reading.{array_at, arrays_at}
+use Rattle.job_tree.proofs.Loops.{loop_next}
+use Rattle.job_tree.proofs.OfDeclarations.{array_shrinks}
 use Rattle.chare_syntax.proofs.declarations.arrays_of.Goals as goal
 
 pub arrays-preserved : goal.arrays-preserved

@@ -1,7 +1,7 @@
 use Rattle.std.proofs.Common.{arith}
-use Rattle.chare_syntax.specs.Reading.{is_member, member_at, members_at}
-use Rattle.chare_syntax.proofs.Loops.{loop_next}
-use Rattle.chare_syntax.proofs.OfDeclarations.{member_shrinks}
+use Rattle.job_tree.specs.Reading.{is_member, member_at, members_at}
+use Rattle.job_tree.proofs.Loops.{loop_next}
+use Rattle.job_tree.proofs.OfDeclarations.{member_shrinks}
 use Rattle.chare_syntax.proofs.declarations.members_of.Goals as goal
 
 pub members-preserved : goal.members-preserved

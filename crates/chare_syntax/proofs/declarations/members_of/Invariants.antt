@@ -1,7 +1,7 @@
 use Rattle.std.proofs.Common.{◌≡◌, ◌≤◌, length}
-use Rattle.chare_syntax.specs.Readers.{many}
-use Rattle.chare_syntax.specs.Reading.{is_member, member_at, members_at}
-use Rattle.chare_syntax.proofs.Loops.{with_front}
+use Rattle.job_tree.specs.Readers.{many}
+use Rattle.job_tree.specs.Reading.{is_member, member_at, members_at}
+use Rattle.job_tree.proofs.Loops.{with_front}
 use Rattle.chare_syntax.proofs.declarations.members_of.Given as goal
 
 abbrev pub invariant-members : goal.invariant-members

@@ -1,9 +1,9 @@
 use Rattle.std.proofs.Common.{arith}
-use Rattle.chare_syntax.specs.declared.token.Mark.TheVariants as marks
-use Rattle.chare_syntax.specs.Readers.{is_mark, many}
-use Rattle.chare_syntax.specs.Reading.{behind, is_add, is_mul, conj_with, test_at, unary_at, sum_term_with, product_term_with}
-use Rattle.chare_syntax.proofs.Loops.{loop_next, behind_ok}
-use Rattle.chare_syntax.proofs.OfExpressions.{or_shrinks, and_shrinks, sum_term_shrinks, product_term_shrinks}
+use Rattle.job_tree.specs.declared.token.Mark.TheVariants as marks
+use Rattle.job_tree.specs.Readers.{is_mark, many}
+use Rattle.job_tree.specs.Reading.{behind, is_add, is_mul, conj_with, test_at, unary_at, sum_term_with, product_term_with}
+use Rattle.job_tree.proofs.Loops.{loop_next, behind_ok}
+use Rattle.job_tree.proofs.OfExpressions.{or_shrinks, and_shrinks, sum_term_shrinks, product_term_shrinks}
 use Rattle.chare_syntax.proofs.expressions.+expression.Goals as goal
 
 pub conjs_of-conjs-preserved : goal.conjs_of-conjs-preserved

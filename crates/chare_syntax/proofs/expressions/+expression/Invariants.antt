@@ -1,8 +1,8 @@
 use Rattle.std.proofs.Common.{◌≡◌, ◌≤◌, length, ◌+◌, ◌*◌}
-use Rattle.chare_syntax.specs.declared.token.Mark.TheVariants as marks
-use Rattle.chare_syntax.specs.Readers.{is_mark, many}
-use Rattle.chare_syntax.specs.Reading.{behind, is_add, is_mul, conj_with, test_at, unary_at, sum_term_with, product_term_with}
-use Rattle.chare_syntax.proofs.Loops.{with_front}
+use Rattle.job_tree.specs.declared.token.Mark.TheVariants as marks
+use Rattle.job_tree.specs.Readers.{is_mark, many}
+use Rattle.job_tree.specs.Reading.{behind, is_add, is_mul, conj_with, test_at, unary_at, sum_term_with, product_term_with}
+use Rattle.job_tree.proofs.Loops.{with_front}
 use Rattle.chare_syntax.proofs.expressions.+expression.Given as goal
 
 abbrev pub decreases-expr_of : goal.decreases-expr_of

@@ -1,5 +1,5 @@
 use Rattle.std.proofs.Common.{arith, ap, ◌∙◌, ◌+◌, ◌^◌, ◌-◌, min}
-use Rattle.chare_syntax.specs.Tokens.{number_from}
+use Rattle.job_tree.specs.Tokens.{number_from}
 use Rattle.chare_syntax.proofs.Skips.{digit_next, digits_end}
 use Rattle.chare_syntax.proofs.lexer.number_of.Goals as goal
 

@@ -1,5 +1,5 @@
 use Rattle.std.proofs.Common.{◌≡◌, ◌^◌, ◌-◌, ◌<◌, min, drop}
-use Rattle.chare_syntax.specs.Tokens.{number_from}
+use Rattle.job_tree.specs.Tokens.{number_from}
 use Rattle.chare_syntax.proofs.lexer.number_of.Given as goal
 
 abbrev pub invariant-digits : goal.invariant-digits

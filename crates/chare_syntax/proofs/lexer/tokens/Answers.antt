@@ -1,5 +1,5 @@
 use Rattle.std.proofs.Common.{sym, ◌∙◌, ◌++◌, ap, arith, length, ◌+◌}
-use Rattle.chare_syntax.specs.Tokens.{tokens, tokens_of}
+use Rattle.job_tree.specs.Tokens.{tokens, tokens_of}
 use Rattle.chare_syntax.proofs.Skips.{piece_next, piece_last, piece_none, fitting}
 use Rattle.chare_syntax.proofs.lexer.tokens.Goals as goal
 

@@ -1,5 +1,5 @@
 use Rattle.std.proofs.Common.{◌≡◌, ◌+◌, ◌++◌, length}
-use Rattle.chare_syntax.specs.Tokens.{tokens, tokens_of}
+use Rattle.job_tree.specs.Tokens.{tokens, tokens_of}
 use Rattle.chare_syntax.proofs.lexer.tokens.Given as goal
 
 abbrev pub invariant-pieces : goal.invariant-pieces

@@ -1,10 +1,10 @@
 use Rattle.std.proofs.Common.{◌∙◌, length, sym, subst}
 use Rattle.std.specs.Prelude.{IsTrue}
 use Rattle.std.proofs.lemmas.Result.{err_from_is_err_and}
-use Rattle.chare_syntax.specs.Accepted.{names_lie}
+use Rattle.job_tree.specs.Accepted.{names_lie}
 use Rattle.chare_syntax.proofs.Filled.{job_filled}
 use Rattle.chare_syntax.proofs.Named.{tokens_named}
-use Rattle.chare_syntax.proofs.Texts.{read_fault}
+use Rattle.job_tree.proofs.Texts.{read_fault}
 use Rattle.chare_syntax.proofs.parse.parse.Goals as goal
 
 pub invariant_of-result-clause-named : goal.invariant_of-result-clause-named

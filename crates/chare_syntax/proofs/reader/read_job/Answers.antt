@@ -1,4 +1,4 @@
-use Rattle.chare_syntax.proofs.Texts.{all_found, all_shallow, all_refused, all_faulty}
+use Rattle.job_tree.proofs.Texts.{all_found, all_shallow, all_refused, all_faulty}
 use Rattle.chare_syntax.proofs.reader.read_job.Goals as goal
 
 pub returns-clause-found : goal.returns-clause-found

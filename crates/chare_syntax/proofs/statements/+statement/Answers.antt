@@ -1,8 +1,8 @@
 use Rattle.std.proofs.Common.{arith}
-use Rattle.chare_syntax.specs.Readers.{many}
-use Rattle.chare_syntax.specs.Reading.{is_stmt, stmt_with, inner}
-use Rattle.chare_syntax.proofs.Loops.{loop_next}
-use Rattle.chare_syntax.proofs.OfStatements.{stmt_shrinks}
+use Rattle.job_tree.specs.Readers.{many}
+use Rattle.job_tree.specs.Reading.{is_stmt, stmt_with, inner}
+use Rattle.job_tree.proofs.Loops.{loop_next}
+use Rattle.job_tree.proofs.OfStatements.{stmt_shrinks}
 use Rattle.chare_syntax.proofs.statements.+statement.Goals as goal
 
 pub statements_of-statements-preserved : goal.statements_of-statements-preserved

@@ -1,7 +1,7 @@
 use Rattle.std.proofs.Common.{◌≡◌, ◌≤◌, length, ◌+◌, ◌*◌}
-use Rattle.chare_syntax.specs.Readers.{many}
-use Rattle.chare_syntax.specs.Reading.{is_stmt, stmt_with, inner}
-use Rattle.chare_syntax.proofs.Loops.{with_front}
+use Rattle.job_tree.specs.Readers.{many}
+use Rattle.job_tree.specs.Reading.{is_stmt, stmt_with, inner}
+use Rattle.job_tree.proofs.Loops.{with_front}
 use Rattle.chare_syntax.proofs.statements.+statement.Given as goal
 
 abbrev pub decreases-stmt_of : goal.decreases-stmt_of

@@ -1,9 +1,9 @@
 use Rattle.std.proofs.Common.{arith}
-use Rattle.chare_syntax.specs.declared.token.Mark.TheVariants as marks
-use Rattle.chare_syntax.specs.Readers.{is_mark, many}
-use Rattle.chare_syntax.specs.Reading.{behind, expr_at}
-use Rattle.chare_syntax.proofs.Loops.{loop_next, behind_ok}
-use Rattle.chare_syntax.proofs.OfStatements.{values_shrinks}
+use Rattle.job_tree.specs.declared.token.Mark.TheVariants as marks
+use Rattle.job_tree.specs.Readers.{is_mark, many}
+use Rattle.job_tree.specs.Reading.{behind, expr_at}
+use Rattle.job_tree.proofs.Loops.{loop_next, behind_ok}
+use Rattle.job_tree.proofs.OfStatements.{values_shrinks}
 use Rattle.chare_syntax.proofs.statements.exprs_of.Goals as goal
 
 pub values-preserved : goal.values-preserved

@@ -1,8 +1,8 @@
 use Rattle.std.proofs.Common.{◌≡◌, ◌≤◌, length}
-use Rattle.chare_syntax.specs.declared.token.Mark.TheVariants as marks
-use Rattle.chare_syntax.specs.Readers.{is_mark, many}
-use Rattle.chare_syntax.specs.Reading.{behind, name_at}
-use Rattle.chare_syntax.proofs.Loops.{with_front}
+use Rattle.job_tree.specs.declared.token.Mark.TheVariants as marks
+use Rattle.job_tree.specs.Readers.{is_mark, many}
+use Rattle.job_tree.specs.Reading.{behind, name_at}
+use Rattle.job_tree.proofs.Loops.{with_front}
 use Rattle.chare_syntax.proofs.steps.more_names_of.Given as goal
 
 abbrev pub invariant-names : goal.invariant-names

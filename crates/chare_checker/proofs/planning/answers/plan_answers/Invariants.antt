@@ -1,5 +1,5 @@
 use Rattle.std.proofs.Common.{◌≡◌, ◌++◌, drop, map}
-use Rattle.chare_checker.specs.PlannedAnswers.{answer_planned}
+use Rattle.job_rules.specs.PlannedAnswers.{answer_planned}
 use Rattle.chare_checker.proofs.planning.answers.plan_answers.Given as goal
 
 abbrev pub invariant-loop-answer : goal.invariant-loop-answer

@@ -1,5 +1,5 @@
 use Rattle.std.proofs.Common.{◌≡◌, ◌++◌, drop}
-use Rattle.chare_checker.specs.PlannedArrays.{arrays_from}
+use Rattle.job_rules.specs.PlannedArrays.{arrays_from}
 use Rattle.chare_checker.proofs.planning.arrays.plan_arrays.Given as goal
 
 abbrev pub invariant-loop-number : goal.invariant-loop-number

@@ -1,5 +1,5 @@
 use Rattle.std.proofs.Common.{◌≡◌, ◌++◌, drop}
-use Rattle.chare_checker.specs.PlannedArrays.{states_planned}
+use Rattle.job_rules.specs.PlannedArrays.{states_planned}
 use Rattle.chare_checker.proofs.planning.arrays.plan_states.Given as goal
 
 abbrev pub invariant-loop-state : goal.invariant-loop-state

@@ -1,5 +1,5 @@
 use Rattle.std.proofs.Common.{◌≡◌, ◌++◌, drop, map}
-use Rattle.chare_checker.specs.PlannedExpressions.{conj_planned, factor_planned, term_planned, test_planned}
+use Rattle.job_rules.specs.PlannedExpressions.{conj_planned, factor_planned, term_planned, test_planned}
 use Rattle.chare_checker.proofs.planning.expressions.+expressions.Given as goal
 
 -- the plans so far, before those of what is left

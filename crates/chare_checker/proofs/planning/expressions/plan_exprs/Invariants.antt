@@ -1,5 +1,5 @@
 use Rattle.std.proofs.Common.{◌≡◌, ◌++◌, drop, map}
-use Rattle.chare_checker.specs.PlannedExpressions.{expr_planned}
+use Rattle.job_rules.specs.PlannedExpressions.{expr_planned}
 use Rattle.chare_checker.proofs.planning.expressions.plan_exprs.Given as goal
 
 abbrev pub invariant-loop-expr : goal.invariant-loop-expr

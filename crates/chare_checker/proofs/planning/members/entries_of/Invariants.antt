@@ -1,5 +1,5 @@
 use Rattle.std.proofs.Common.{◌≡◌, ◌++◌, drop}
-use Rattle.chare_checker.specs.PlannedMembers.{entries_of}
+use Rattle.job_rules.specs.PlannedMembers.{entries_of}
 use Rattle.chare_checker.proofs.planning.members.entries_of.Given as goal
 
 abbrev pub invariant-loop-member : goal.invariant-loop-member

@@ -1,5 +1,5 @@
 use Rattle.std.proofs.Common.{◌≡◌, ◌++◌, drop}
-use Rattle.chare_checker.specs.PlannedMembers.{entries_from}
+use Rattle.job_rules.specs.PlannedMembers.{entries_from}
 use Rattle.chare_checker.proofs.planning.members.plan_entries.Given as goal
 
 abbrev pub invariant-loop-owner : goal.invariant-loop-owner

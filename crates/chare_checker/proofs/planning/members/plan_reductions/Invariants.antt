@@ -1,5 +1,5 @@
 use Rattle.std.proofs.Common.{◌≡◌, ◌++◌, drop}
-use Rattle.chare_checker.specs.PlannedMembers.{reductions_from}
+use Rattle.job_rules.specs.PlannedMembers.{reductions_from}
 use Rattle.chare_checker.proofs.planning.members.plan_reductions.Given as goal
 
 abbrev pub invariant-loop-owner : goal.invariant-loop-owner

@@ -1,5 +1,5 @@
 use Rattle.std.proofs.Common.{◌≡◌, ◌++◌, drop}
-use Rattle.chare_checker.specs.PlannedMembers.{reductions_of}
+use Rattle.job_rules.specs.PlannedMembers.{reductions_of}
 use Rattle.chare_checker.proofs.planning.members.reductions_of.Given as goal
 
 abbrev pub invariant-loop-member : goal.invariant-loop-member

@@ -1,5 +1,5 @@
 use Rattle.std.proofs.Common.{◌≡◌, ◌++◌, drop, map}
-use Rattle.chare_checker.specs.PlannedStatements.{each_planned, stmt_planned}
+use Rattle.job_rules.specs.PlannedStatements.{each_planned, stmt_planned}
 use Rattle.chare_checker.proofs.planning.statements.+statements.Given as goal
 
 -- the plans so far, before those of what is left

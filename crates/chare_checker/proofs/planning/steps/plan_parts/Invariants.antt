@@ -1,5 +1,5 @@
 use Rattle.std.proofs.Common.{◌≡◌, ◌++◌, drop, map}
-use Rattle.chare_checker.specs.PlannedSteps.{part_planned}
+use Rattle.job_rules.specs.PlannedSteps.{part_planned}
 use Rattle.chare_checker.proofs.planning.steps.plan_parts.Given as goal
 
 abbrev pub invariant-loop-part : goal.invariant-loop-part

@@ -1,5 +1,5 @@
 use Rattle.std.proofs.Common.{◌≡◌, ◌++◌, drop, map}
-use Rattle.chare_checker.specs.PlannedSteps.{step_planned}
+use Rattle.job_rules.specs.PlannedSteps.{step_planned}
 use Rattle.chare_checker.proofs.planning.steps.plan_steps.Given as goal
 
 abbrev pub invariant-loop-step : goal.invariant-loop-step

@@ -1,0 +1,15 @@
+pub mod Ends
+pub mod Lists
+pub mod Law
+pub mod Joined
+pub mod Many
+pub mod Marks
+pub mod Rules
+pub mod Singles
+pub mod OfExpressions
+pub mod OfStatements
+pub mod OfDeclarations
+pub mod Texts
+pub mod Parts
+pub mod Loops
+pub mod Unique

@@ -1,0 +1,10 @@
+pub mod Mark
+pub mod Words
+pub mod Tokens
+pub mod Fault
+pub mod Readers
+pub mod Word
+pub mod Spelling
+pub mod Reading
+pub mod Accepted
+pub mod Text
