@@ -1,5 +1,6 @@
 pub mod Lists
 pub mod Opening
+pub mod Renewing
 pub mod Picks
 pub mod Drilling
 pub mod Counting
