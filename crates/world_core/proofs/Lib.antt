@@ -1,10 +1,13 @@
 pub mod Lists
 pub mod Opening
+pub mod Renewing
 pub mod Picks
 pub mod Drilling
 pub mod Counting
 pub mod Prefixes
 pub mod Seating
+pub mod Slots
+pub mod SlotsActed
 pub mod Unordered
 pub mod Staying
 pub mod Sides

@@ -23,3 +23,7 @@ next_slot s replica j live cut first before new after all opened so_far is pushe
     let more : j + 1 ≡ suc j = omega arith in
     pushed ∙ ap (λ xs. xs ++ new ∷ []) so_far ∙ ap (λ x. (first ++ opening_slots s replica j) ++ x ∷ []) last
     ∙ joined first (opening_slots s replica j) (made (opening_cut s.nodes) (record { 0 = all_lines s.script }) ∷ []) ∙ ap (λ n. first ++ opening_slots s replica n) (sym more)
+
+pub opened_nodes : (nodes : ℕ) (cut : CutState) → cut ≡ opening_cut nodes → cut.nodes ≡ nodes
+unfolding opening_cut
+opened_nodes nodes cut is = ap (λ (c : CutState). c.nodes) is

@@ -1,64 +1,89 @@
 -- The first seat that can run, behind seats that can't.
-use Rattle.std.proofs.Common.{◌≡◌, ℕ, zero, suc, ◌+◌, ◌≤◌, ◌<◌, Bool, true, false, cond, List, [], ◌∷◌, length, take, refl, ap, sym, ◌∙◌, arith, Option, Some, None}
+use Rattle.std.proofs.Common.{◌≡◌, ℕ, zero, suc, ◌+◌, ◌≤◌, ◌<◌, Bool, true, false, cond, List, [], ◌∷◌, length, take, refl, ap, sym, ◌∙◌, arith, Some, None}
 use Rattle.std.specs.Prelude.{slice_index_or, slice_set, min}
-use Rattle.world_core.specs.Steps.{first_able}
+use Rattle.world_core.specs.declared.doing.Readiness.{Readiness}
+use Rattle.world_core.specs.Steps.{first_able, is_able}
 
-none_before_from : (k : ℕ) (all : List Bool) (i j : ℕ) → j ≤ i → first_able k (take i all) ≡ None → first_able k (take j all) ≡ None
+none_before_from : (k : ℕ) (all : List Readiness) (i j : ℕ) → j ≤ i → first_able k (take i all) ≡ None → first_able k (take j all) ≡ None
 none_before_from k all i zero h none = refl
 none_before_from k [] i (suc j) h none = refl
-none_before_from k (b ∷ more) zero (suc j) h none = absurd (omega (arith, h))
-none_before_from k (true ∷ more) (suc i) (suc j) h none = absurd cc
-none_before_from k (false ∷ more) (suc i) (suc j) h none = none_before_from (suc k) more i j (omega (arith, h)) none
+none_before_from k (r ∷ more) zero (suc j) h none = absurd (omega (arith, h))
+none_before_from k (r ∷ more) (suc i) (suc j) h none = by (is_able r) none (none_before_from (suc k) more i j (omega (arith, h)))
+  where
+    by : (b : Bool) → cond b (Some k) (first_able (suc k) (take i more)) ≡ None → (first_able (suc k) (take i more) ≡ None → first_able (suc k) (take j more) ≡ None) →
+        cond b (Some k) (first_able (suc k) (take j more)) ≡ None
+    by true is rest = absurd (let q : Some k ≡ None = is in cc)
+    by false is rest = rest is
 
-pub none_before : (all : List Bool) (i j : ℕ) → j ≤ i → first_able 0 (take i all) ≡ None → first_able 0 (take j all) ≡ None
+pub none_before : (all : List Readiness) (i j : ℕ) → j ≤ i → first_able 0 (take i all) ≡ None → first_able 0 (take j all) ≡ None
 none_before all i j h none = none_before_from 0 all i j h none
 
-pub set_beyond : (all : List Bool) (i j : ℕ) (b : Bool) → i ≤ j → take i (slice_set all j b) ≡ take i all
-set_beyond all zero j b h = refl
-set_beyond [] (suc i) j b h = refl
-set_beyond (x ∷ more) (suc i) zero b h = absurd (omega (arith, h))
-set_beyond (x ∷ more) (suc i) (suc j) b h = ap (λ bs. x ∷ bs) (set_beyond more i j b (omega (arith, h)))
+pub set_beyond : (all : List Readiness) (i j : ℕ) (r : Readiness) → i ≤ j → take i (slice_set all j r) ≡ take i all
+set_beyond all zero j r h = refl
+set_beyond [] (suc i) j r h = refl
+set_beyond (x ∷ more) (suc i) zero r h = absurd (omega (arith, h))
+set_beyond (x ∷ more) (suc i) (suc j) r h = ap (λ rs. x ∷ rs) (set_beyond more i j r (omega (arith, h)))
 
-set_length : (all : List Bool) (j : ℕ) (b : Bool) → length (slice_set all j b) ≡ length all
-set_length [] j b = refl
-set_length (x ∷ more) zero b = refl
-set_length (x ∷ more) (suc j) b = ap suc (set_length more j b)
+set_length : (all : List Readiness) (j : ℕ) (r : Readiness) → length (slice_set all j r) ≡ length all
+set_length [] j r = refl
+set_length (x ∷ more) zero r = refl
+set_length (x ∷ more) (suc j) r = ap suc (set_length more j r)
 
 -- a seat is told again: none before it, and none before where the search begins, can run
-pub set_clear : (all new : List Bool) (from seat : ℕ) (b : Bool) → new ≡ slice_set all seat b → first_able 0 (take from all) ≡ None → first_able 0 (take (min from seat) new) ≡ None
-set_clear all new from seat b is none =
-    ap (λ bs. first_able 0 (take (min from seat) bs)) is ∙ ap (first_able 0) (set_beyond all (min from seat) seat b (omega arith)) ∙ none_before all from (min from seat) (omega arith) none
+pub set_clear : (all new : List Readiness) (from seat : ℕ) (r : Readiness) → new ≡ slice_set all seat r → first_able 0 (take from all) ≡ None → first_able 0 (take (min from seat) new) ≡ None
+set_clear all new from seat r is none =
+    ap (λ rs. first_able 0 (take (min from seat) rs)) is ∙ ap (first_able 0) (set_beyond all (min from seat) seat r (omega arith)) ∙ none_before all from (min from seat) (omega arith) none
 
-pub set_within : (all new : List Bool) (from seat : ℕ) (b : Bool) → new ≡ slice_set all seat b → from ≤ length all → min from seat ≤ length new
-set_within all new from seat b is h = omega (arith, ap length is, set_length all seat b, h)
+pub set_within : (all new : List Readiness) (from seat : ℕ) (r : Readiness) → new ≡ slice_set all seat r → from ≤ length all → min from seat ≤ length new
+set_within all new from seat r is h = omega (arith, ap length is, set_length all seat r, h)
+
+pub clear_at : (all new : List Readiness) (from seat least : ℕ) (r : Readiness) → least ≡ min from seat → new ≡ slice_set all seat r → first_able 0 (take from all) ≡ None → first_able 0 (take least new) ≡ None
+clear_at all new from seat least r at is none = ap (λ m. first_able 0 (take m new)) at ∙ set_clear all new from seat r is none
+
+pub within_at : (all new : List Readiness) (from seat least : ℕ) (r : Readiness) → least ≡ min from seat → new ≡ slice_set all seat r → from ≤ length all → least ≤ length new
+within_at all new from seat least r at is h = omega (arith, at, set_within all new from seat r is h)
+
+-- a seat that isn't there changes nothing
+pub set_nowhere : (all : List Readiness) (seat : ℕ) (r : Readiness) → length all ≤ seat → slice_set all seat r ≡ all
+set_nowhere [] seat r h = refl
+set_nowhere (x ∷ more) zero r h = absurd (omega (arith, h))
+set_nowhere (x ∷ more) (suc i) r h = ap (λ rs. x ∷ rs) (set_nowhere more i r (omega (arith, h)))
 
 -- ---- the search
 
-next_from : (k : ℕ) (all : List Bool) (i : ℕ) → first_able k (take i all) ≡ None → i < length all → slice_index_or all i false ≡ false → first_able k (take (suc i) all) ≡ None
-next_from k [] i none below is = absurd (omega (arith, below))
-next_from k (true ∷ more) zero none below is = absurd cc
-next_from k (false ∷ more) zero none below is = refl
-next_from k (true ∷ more) (suc i) none below is = absurd cc
-next_from k (false ∷ more) (suc i) none below is = next_from (suc k) more i none (omega (arith, below)) is
+next_from : (k : ℕ) (all : List Readiness) (i : ℕ) (x : Readiness) → first_able k (take i all) ≡ None → i < length all → is_able (slice_index_or all i x) ≡ false → first_able k (take (suc i) all) ≡ None
+next_from k [] i x none below is = absurd (omega (arith, below))
+next_from k (r ∷ more) zero x none below is = ap (λ b. cond b (Some k) None) is
+next_from k (r ∷ more) (suc i) x none below is = by (is_able r) none (λ rest. next_from (suc k) more i x rest (omega (arith, below)) is)
+  where
+    by : (b : Bool) → cond b (Some k) (first_able (suc k) (take i more)) ≡ None → (first_able (suc k) (take i more) ≡ None → first_able (suc k) (take (suc i) more) ≡ None) →
+        cond b (Some k) (first_able (suc k) (take (suc i) more)) ≡ None
+    by true none rest = absurd (let q : Some k ≡ None = none in cc)
+    by false none rest = rest none
 
-pub next_none : (all : List Bool) (i n : ℕ) → n ≡ i + 1 → first_able 0 (take i all) ≡ None → i < length all → slice_index_or all i false ≡ false → first_able 0 (take n all) ≡ None
-next_none all i n same none below is =
+-- one that was looked at can't run
+pub next_none : (all : List Readiness) (i n : ℕ) (x : Readiness) → n ≡ i + 1 → first_able 0 (take i all) ≡ None → i < length all → is_able (slice_index_or all i x) ≡ false → first_able 0 (take n all) ≡ None
+next_none all i n x same none below is =
     let one : n ≡ suc i = omega (arith, same) in
-    ap (λ m. first_able 0 (take m all)) one ∙ next_from 0 all i none below is
+    ap (λ m. first_able 0 (take m all)) one ∙ next_from 0 all i x none below is
 
-found_from : (k : ℕ) (all : List Bool) (i : ℕ) → first_able k (take i all) ≡ None → i < length all → slice_index_or all i false ≡ true → first_able k all ≡ Some (k + i)
-found_from k [] i none below is = absurd (omega (arith, below))
-found_from k (true ∷ more) zero none below is = let same : k ≡ k + 0 = omega arith in ap Some same
-found_from k (false ∷ more) zero none below is = absurd cc
-found_from k (true ∷ more) (suc i) none below is = absurd cc
-found_from k (false ∷ more) (suc i) none below is = let same : suc k + i ≡ k + suc i = omega arith in found_from (suc k) more i none (omega (arith, below)) is ∙ ap Some same
+found_from : (k : ℕ) (all : List Readiness) (i : ℕ) (x : Readiness) → first_able k (take i all) ≡ None → i < length all → is_able (slice_index_or all i x) ≡ true → first_able k all ≡ Some (k + i)
+found_from k [] i x none below is = absurd (omega (arith, below))
+found_from k (r ∷ more) zero x none below is = let same : k ≡ k + 0 = omega arith in ap (λ b. cond b (Some k) (first_able (suc k) more)) is ∙ ap Some same
+found_from k (r ∷ more) (suc i) x none below is = by (is_able r) none (λ rest. found_from (suc k) more i x rest (omega (arith, below)) is)
+  where
+    by : (b : Bool) → cond b (Some k) (first_able (suc k) (take i more)) ≡ None → (first_able (suc k) (take i more) ≡ None → first_able (suc k) more ≡ Some (suc k + i)) →
+        cond b (Some k) (first_able (suc k) more) ≡ Some (k + suc i)
+    by true none rest = absurd (let q : Some k ≡ None = none in cc)
+    by false none rest = let same : suc k + i ≡ k + suc i = omega arith in rest none ∙ ap Some same
 
-pub found_at : (all : List Bool) (i : ℕ) → first_able 0 (take i all) ≡ None → i < length all → slice_index_or all i false ≡ true → first_able 0 all ≡ Some i
-found_at all i none below is = let same : 0 + i ≡ i = omega arith in found_from 0 all i none below is ∙ ap Some same
+-- one that was looked at can
+pub found_at : (all : List Readiness) (i : ℕ) (x : Readiness) → first_able 0 (take i all) ≡ None → i < length all → is_able (slice_index_or all i x) ≡ true → first_able 0 all ≡ Some i
+found_at all i x none below is = let same : 0 + i ≡ i = omega arith in found_from 0 all i x none below is ∙ ap Some same
 
-whole : (all : List Bool) → take (length all) all ≡ all
+whole : (all : List Readiness) → take (length all) all ≡ all
 whole [] = refl
-whole (b ∷ more) = ap (λ bs. b ∷ bs) (whole more)
+whole (r ∷ more) = ap (λ rs. r ∷ rs) (whole more)
 
-pub found_nowhere : (all : List Bool) (i : ℕ) → i ≡ length all → first_able 0 (take i all) ≡ None → first_able 0 all ≡ None
+pub found_nowhere : (all : List Readiness) (i : ℕ) → i ≡ length all → first_able 0 (take i all) ≡ None → first_able 0 all ≡ None
 found_nowhere all i same none = sym (ap (first_able 0) (whole all)) ∙ sym (ap (λ n. first_able 0 (take n all)) same) ∙ none

@@ -1,6 +1,8 @@
--- Which objects can run: what is looked at again after an event is all that may have changed.
+-- How objects stand: what is looked at again after an event is all that may have changed.
 use Rattle.std.proofs.Common.{◌≡◌, ℕ, zero, suc, Bool, true, false, cond, ◌+◌, ◌<◌, List, [], ◌∷◌, ◌++◌, drop, length, map, refl, ap, sym, subst, ◌∙◌, arith, Option, Some, None}
-use Rattle.std.specs.Prelude.{◌==◌, ◌&&◌, slice_get, slice_set, ℤ}
+use Rattle.std.specs.Prelude.{◌==◌, ◌&&◌, is_none, nat_lt, slice_get, slice_set, ℤ}
+use Rattle.std.proofs.lemmas.Bool.{le-ltb, lt-ltb}
+use Rattle.std.proofs.lemmas.Bool.Decides.{nat_tests}
 use Rattle.chare_base.specs.declared.message.Payload.{Payload}
 use Rattle.chare_base.specs.declared.message.EntryId.{EntryId}
 use Rattle.chare_base.specs.declared.message.ReductionId.{ReductionId}
@@ -13,58 +15,112 @@ use Rattle.letter_post.specs.declared.letter.Letter.{Letter}
 use Rattle.letter_post.specs.declared.letter.Letter.TheVariants as letters
 use Rattle.letter_post.specs.declared.stamp.Stamp.{Stamp}
 use Rattle.letter_post.specs.Stamps.{lines_of, same_stamp}
-use Rattle.object_steps.specs.Objects.{Progress}
+use Rattle.object_steps.specs.Objects.{Progress, ready}
 use Rattle.node_core.specs.declared.piece.Held.{Held}
-use Rattle.node_core.specs.Nodes.{Body, NodeState, Outcome, awake, body_ran, body_ran_at, body_ran_by, can_run_by, element_in, first_running, first_running_of, is_new, node_heard, node_heard_by, node_packed, node_packed_by, node_ran, node_ran_by, objects_of, outcome_of, parcel_heard, partial_heard, piece_kept, rests, rests_by, share_heard, stands, taken_at, taken_by, unmoved}
+use Rattle.node_core.specs.Nodes.{Body, NodeState, awake, body_ran, body_ran_at, body_ran_by, completed_by, can_run_by, element_in, first_running, first_running_of, is_new, node_heard, node_heard_by, node_ran, node_ran_by, objects_of, outcome_of, parcel_heard, partial_heard, piece_kept, rests, rests_by, share_heard, stands, taken_at, taken_by, unmoved}
 use Rattle.node_core.specs.Rosters.{number_in, seat_of, sharers_of}
-use Rattle.node_core.specs.Turns.{can_run}
-use Rattle.letter_post.specs.declared.letter.Sent.{Sent}
-use Rattle.world_core.specs.declared.doing.Doing.{Doing}
-use Rattle.world_core.specs.Steps.{Acted, able_at, acted, first_able, marked, marked_by, reach_of}
-use Rattle.world_core.specs.Worlds.{ables, doing_of}
+use Rattle.node_core.specs.Turns.{can_run, is_step}
+use Rattle.world_core.specs.declared.doing.Readiness.{Readiness}
+use Rattle.world_core.specs.declared.doing.Readiness.TheVariants.{Behind, Ready, Awaits, Level, Past}
+use Rattle.world_core.specs.declared.doing.Reach.TheVariants.{Element}
+use Rattle.world_core.specs.Steps.{first_able, is_able, marked, marked_by, reach_of, readiness_at, readiness_by}
+use Rattle.world_core.specs.Worlds.{readiness, seats_of}
+use Rattle.world_core.proofs.Counting.{shaped}
 
-module _ (p : Plan) where
-  abbrev can : Progress → Bool
-  can = can_run p p.iterations
+-- ---- one object
 
-  abbrev at : List Progress → ℕ → Bool
-  at all i = can_run_by p p.iterations (slice_get all i)
+-- it is able where it can run
+pub able_is : (p : Plan) (top : ℕ) (o : Progress) → is_able (readiness p top o) ≡ can_run p top o
+able_is p top o = by o.step refl
+  where
+    between_two : (a b c : Bool) → is_able (cond (a && b) Behind (cond c Level Past)) ≡ (b && a)
+    between_two true true c = refl
+    between_two true false true = refl
+    between_two true false false = refl
+    between_two false true true = refl
+    between_two false true false = refl
+    between_two false false true = refl
+    between_two false false false = refl
+
+    inside : (b : Bool) → is_able (cond b Ready Awaits) ≡ b
+    inside true = refl
+    inside false = refl
+
+    by : (s : Option ℕ) → o.step ≡ s → is_able (readiness p top o) ≡ can_run p top o
+    by None is =
+        ap is_able (shaped p top o None is) ∙ between_two (nat_lt o.done p.iterations) (nat_lt o.done top) (o.done == top)
+        ∙ sym (ap (λ (t : Option ℕ). cond (is_none t) (nat_lt o.done top && nat_lt o.done p.iterations) (is_step (ready p o))) is)
+    by (Some step) is = ap is_able (shaped p top o (Some step) is) ∙ inside (can_run p top o)
+
+-- as the code tells it: by what it has completed, where it is between two iterations
+abbrev pub told : Plan → ℕ → Option ℕ → Bool → Bool → Readiness
+told p top (Some done) can there = cond (nat_lt done p.iterations && nat_lt done top) Behind (cond (done == top) Level Past)
+told p top None can there = cond there (cond can Ready Awaits) Past
+
+told_by : (p : Plan) (top : ℕ) (o : Option Progress) (there : Bool) → there ≡ cond (is_none o) false true → told p top (completed_by o) (can_run_by p top o) there ≡ readiness_by p top o
+told_by p top None there is = ap (λ b. cond b Awaits Past) is
+told_by p top (Some o) there is = by o.step refl
+  where
+    by : (s : Option ℕ) → o.step ≡ s → told p top (completed_by (Some o)) (can_run p top o) there ≡ readiness p top o
+    by None step = ap (λ (t : Option ℕ). told p top (cond (is_none t) (Some o.done) None) (can_run p top o) there) step ∙ sym (shaped p top o None step)
+    by (Some s) step =
+        ap (λ (t : Option ℕ). told p top (cond (is_none t) (Some o.done) None) (can_run p top o) there) step
+        ∙ ap (λ b. cond b (cond (can_run p top o) Ready Awaits) Past) is ∙ sym (shaped p top o (Some s) step)
+
+both_less : (i l : ℕ) → nat_lt (suc i) (suc l) ≡ nat_lt i l
+both_less i l = grind (arith, nat_tests)
+
+is_there : (all : List Progress) (i : ℕ) → nat_lt i (length all) ≡ cond (is_none (slice_get all i)) false true
+is_there [] i = le-ltb i 0 (omega arith)
+is_there (o ∷ more) zero = lt-ltb 0 (suc (length more)) (omega arith)
+is_there (o ∷ more) (suc i) = both_less i (length more) ∙ is_there more i
+
+pub told_at : (p : Plan) (top : ℕ) (n : NodeState) (i : ℕ) →
+    told p top (completed_by (slice_get (objects_of n.body) i)) (can_run_by p top (slice_get (objects_of n.body) i)) (nat_lt i (length (objects_of n.body))) ≡ readiness_at p top n i
+told_at p top n i = told_by p top (slice_get (objects_of n.body) i) (nat_lt i (length (objects_of n.body))) (is_there (objects_of n.body) i)
+
+module _ (p : Plan) (top : ℕ) where
+  abbrev how : Progress → Readiness
+  how = readiness p top
+
+  abbrev at : List Progress → ℕ → Readiness
+  at all i = readiness_by p top (slice_get all i)
 
   -- an object that is looked at again as it was
-  same : (all : List Progress) (i : ℕ) → slice_set (map can all) i (at all i) ≡ map can all
+  same : (all : List Progress) (i : ℕ) → slice_set (map how all) i (at all i) ≡ map how all
   same [] i = refl
   same (o ∷ more) zero = refl
-  same (o ∷ more) (suc i) = ap (λ bs. can o ∷ bs) (same more i)
+  same (o ∷ more) (suc i) = ap (λ rs. how o ∷ rs) (same more i)
 
   -- one that is another
-  new : (all : List Progress) (i : ℕ) (x : Progress) → slice_set (map can all) i (at (slice_set all i x) i) ≡ map can (slice_set all i x)
+  new : (all : List Progress) (i : ℕ) (x : Progress) → slice_set (map how all) i (at (slice_set all i x) i) ≡ map how (slice_set all i x)
   new [] i x = refl
   new (o ∷ more) zero x = refl
-  new (o ∷ more) (suc i) x = ap (λ bs. can o ∷ bs) (new more i x)
+  new (o ∷ more) (suc i) x = ap (λ rs. how o ∷ rs) (new more i x)
 
-  abbrev seats : List Progress → Option ℕ → List Bool → List Bool
-  seats all None able = able
-  seats all (Some i) able = slice_set able i (at all i)
+  abbrev seats : List Progress → Option ℕ → List Readiness → List Readiness
+  seats all None kept = kept
+  seats all (Some i) kept = slice_set kept i (at all i)
 
-  stays : (all : List Progress) (seat : Option ℕ) → seats all seat (map can all) ≡ map can all
+  stays : (all : List Progress) (seat : Option ℕ) → seats all seat (map how all) ≡ map how all
   stays all None = refl
   stays all (Some i) = same all i
 
   -- the object of a seat took a message
   takes_one : (k : ℕ) (entry : EntryId) (payload : Payload) (all : List Progress) (seat : Option ℕ) →
-      seats (taken_at k entry payload all seat) seat (map can all) ≡ map can (taken_at k entry payload all seat)
+      seats (taken_at k entry payload all seat) seat (map how all) ≡ map how (taken_at k entry payload all seat)
   takes_one k entry payload all None = refl
   takes_one k entry payload all (Some i) = by (slice_get all i)
     where
-      by : (o : Option Progress) → slice_set (map can all) i (at (taken_by k entry payload all i o) i) ≡ map can (taken_by k entry payload all i o)
+      by : (o : Option Progress) → slice_set (map how all) i (at (taken_by k entry payload all i o) i) ≡ map how (taken_by k entry payload all i o)
       by None = same all i
       by (Some o) = new all i _
 
   -- ---- a node
 
-  marks : (n : NodeState) (seat : Option ℕ) (able : List Bool) → marked p n seat able ≡ seats (objects_of n.body) seat able
-  marks n None able = refl
-  marks n (Some i) able = refl
+  marks : (n : NodeState) (seat : Option ℕ) (kept : List Readiness) → marked p top n seat kept ≡ seats (objects_of n.body) seat kept
+  marks n None kept = refl
+  marks n (Some i) kept = refl
 
   -- it ran an element
   module _ (script : List Fault) (place : List ℕ) (limit e : ℕ) (n : NodeState) where
@@ -72,39 +128,39 @@ module _ (p : Plan) where
     ran_at b seat = (body_ran_at p (lines_of script n.last.stamp) place limit n.slot n.last.stamp n.roster b seat).body
 
     ran_one : (b : Body) (i : ℕ) (o : Option Progress) →
-        slice_set (map can b.objects) i (at (body_ran_by p (lines_of script n.last.stamp) place limit n.slot n.last.stamp n.roster b i o).body.objects i)
-        ≡ map can (body_ran_by p (lines_of script n.last.stamp) place limit n.slot n.last.stamp n.roster b i o).body.objects
+        slice_set (map how b.objects) i (at (body_ran_by p (lines_of script n.last.stamp) place limit n.slot n.last.stamp n.roster b i o).body.objects i)
+        ≡ map how (body_ran_by p (lines_of script n.last.stamp) place limit n.slot n.last.stamp n.roster b i o).body.objects
     ran_one b i None = same b.objects i
     ran_one b i (Some o) = new b.objects i _
 
-    ran_seat : (b : Body) (seat : Option ℕ) → seats (ran_at b seat).objects seat (map can b.objects) ≡ map can (ran_at b seat).objects
+    ran_seat : (b : Body) (seat : Option ℕ) → seats (ran_at b seat).objects seat (map how b.objects) ≡ map how (ran_at b seat).objects
     ran_seat b None = refl
     ran_seat b (Some i) = ran_one b i (slice_get b.objects i)
 
-    ran_alive : (b : Body) → seats (body_ran p (lines_of script n.last.stamp) place limit e n.slot n.last.stamp n.roster b).body.objects (seat_of n.roster e) (map can b.objects)
-        ≡ map can (body_ran p (lines_of script n.last.stamp) place limit e n.slot n.last.stamp n.roster b).body.objects
+    ran_alive : (b : Body) → seats (body_ran p (lines_of script n.last.stamp) place limit e n.slot n.last.stamp n.roster b).body.objects (seat_of n.roster e) (map how b.objects)
+        ≡ map how (body_ran p (lines_of script n.last.stamp) place limit e n.slot n.last.stamp n.roster b).body.objects
     unfolding body_ran
     ran_alive b = by b.waits
       where
         by : (w : Bool) →
-            seats (cond w (stands b) (body_ran_at p (lines_of script n.last.stamp) place limit n.slot n.last.stamp n.roster b (seat_of n.roster e))).body.objects (seat_of n.roster e) (map can b.objects)
-            ≡ map can (cond w (stands b) (body_ran_at p (lines_of script n.last.stamp) place limit n.slot n.last.stamp n.roster b (seat_of n.roster e))).body.objects
+            seats (cond w (stands b) (body_ran_at p (lines_of script n.last.stamp) place limit n.slot n.last.stamp n.roster b (seat_of n.roster e))).body.objects (seat_of n.roster e) (map how b.objects)
+            ≡ map how (cond w (stands b) (body_ran_at p (lines_of script n.last.stamp) place limit n.slot n.last.stamp n.roster b (seat_of n.roster e))).body.objects
         by true = stays b.objects (seat_of n.roster e)
         by false = ran_seat b (seat_of n.roster e)
 
     abbrev after : Option Body → NodeState
     after b = (outcome_of (node_ran_by p script place limit e n b)).node
 
-    ran_by : (b : Option Body) → n.body ≡ b → marked p (after b) (seat_of (after b).roster e) (map can (objects_of b)) ≡ ables p (after b)
+    ran_by : (b : Option Body) → n.body ≡ b → marked p top (after b) (seat_of (after b).roster e) (map how (objects_of b)) ≡ seats_of p top (after b)
     ran_by None is =
-        marks n (seat_of n.roster e) [] ∙ subst (λ o. seats (objects_of o) (seat_of n.roster e) [] ≡ map can (objects_of o)) (sym is) (stays [] (seat_of n.roster e))
-    ran_by (Some b) is = marks (after (Some b)) (seat_of n.roster e) (map can b.objects) ∙ ran_alive b
+        marks n (seat_of n.roster e) [] ∙ subst (λ o. seats (objects_of o) (seat_of n.roster e) [] ≡ map how (objects_of o)) (sym is) (stays [] (seat_of n.roster e))
+    ran_by (Some b) is = marks (after (Some b)) (seat_of n.roster e) (map how b.objects) ∙ ran_alive b
 
-    pub ran_marks : (able : List Bool) → able ≡ ables p n →
-        marked p (outcome_of (node_ran p script place limit e n)).node (seat_of (outcome_of (node_ran p script place limit e n)).node.roster e) able
-        ≡ ables p (outcome_of (node_ran p script place limit e n)).node
+    pub ran_marks : (kept : List Readiness) → kept ≡ seats_of p top n →
+        marked p top (outcome_of (node_ran p script place limit e n)).node (seat_of (outcome_of (node_ran p script place limit e n)).node.roster e) kept
+        ≡ seats_of p top (outcome_of (node_ran p script place limit e n)).node
     unfolding node_ran
-    ran_marks able is = ap (marked p (after n.body) (seat_of (after n.body).roster e)) is ∙ ran_by n.body refl
+    ran_marks kept is = ap (marked p top (after n.body) (seat_of (after n.body).roster e)) is ∙ ran_by n.body refl
 
   -- it heard a letter
   module _ (script : List Fault) (place : List ℕ) (n : NodeState) where
@@ -112,8 +168,8 @@ module _ (p : Plan) where
     heard letter b = (node_heard_by p script place letter n b).node
 
     parcel : (b : Body) (k : ℕ) (entry : EntryId) (to : ElementId) (payload : Payload) (own : Bool) →
-        seats (cond own (parcel_heard n.roster k entry to payload b) (unmoved b)).body.objects (seat_of n.roster to.0) (map can b.objects)
-        ≡ map can (cond own (parcel_heard n.roster k entry to payload b) (unmoved b)).body.objects
+        seats (cond own (parcel_heard n.roster k entry to payload b) (unmoved b)).body.objects (seat_of n.roster to.0) (map how b.objects)
+        ≡ map how (cond own (parcel_heard n.roster k entry to payload b) (unmoved b)).body.objects
     parcel b k entry to payload true = takes_one k entry payload b.objects (seat_of n.roster to.0)
     parcel b k entry to payload false = stays b.objects (seat_of n.roster to.0)
 
@@ -134,43 +190,44 @@ module _ (p : Plan) where
     piece b held true = refl
     piece b held false = refl
 
-    heard_by : (letter : Letter) (b : Option Body) → n.body ≡ b → marked_by p (heard letter b) (reach_of letter) (map can (objects_of b)) ≡ ables p (heard letter b)
+    heard_by : (letter : Letter) (b : Option Body) → n.body ≡ b → marked_by p top (heard letter b) (reach_of letter) (map how (objects_of b)) ≡ seats_of p top (heard letter b)
     heard_by (letters.Parcel stamp entry k to payload) None is =
-        marks n (seat_of n.roster to.0) [] ∙ subst (λ o. seats (objects_of o) (seat_of n.roster to.0) [] ≡ map can (objects_of o)) (sym is) (stays [] (seat_of n.roster to.0))
+        marks n (seat_of n.roster to.0) [] ∙ subst (λ o. seats (objects_of o) (seat_of n.roster to.0) [] ≡ map how (objects_of o)) (sym is) (stays [] (seat_of n.roster to.0))
     heard_by (letters.Parcel stamp entry k to payload) (Some b) is =
-        marks (heard (letters.Parcel stamp entry k to payload) (Some b)) (seat_of n.roster to.0) (map can b.objects) ∙ parcel b k entry to payload (same_stamp stamp n.last.stamp)
-    heard_by (letters.Partial stamp r k node value) None is = ap (λ o. map can (objects_of o)) (sym is)
-    heard_by (letters.Partial stamp r k node value) (Some b) is = ap (map can) (sym (partial b r k node value (same_stamp stamp n.last.stamp)))
+        marks (heard (letters.Parcel stamp entry k to payload) (Some b)) (seat_of n.roster to.0) (map how b.objects) ∙ parcel b k entry to payload (same_stamp stamp n.last.stamp)
+    heard_by (letters.Partial stamp r k node value) None is = ap (λ o. map how (objects_of o)) (sym is)
+    heard_by (letters.Partial stamp r k node value) (Some b) is = ap (map how) (sym (partial b r k node value (same_stamp stamp n.last.stamp)))
     heard_by (letters.Total stamp r k value) b is = refl
-    heard_by (letters.Piece stamp x) None is = ap (λ o. map can (objects_of o)) (sym is)
-    heard_by (letters.Piece stamp x) (Some b) is = ap (map can) (sym (piece b (record { stamp = stamp; piece = x }) (x.node == n.slot.node && is_new stamp x b.other)))
-    heard_by (letters.VerdictOf first second node k verdict x) None is = ap (λ o. map can (objects_of o)) (sym is)
+    heard_by (letters.Piece stamp x) None is = ap (λ o. map how (objects_of o)) (sym is)
+    heard_by (letters.Piece stamp x) (Some b) is = ap (map how) (sym (piece b (record { stamp = stamp; piece = x }) (x.node == n.slot.node && is_new stamp x b.other)))
+    heard_by (letters.VerdictOf first second node k verdict x) None is = ap (λ o. map how (objects_of o)) (sym is)
     heard_by (letters.VerdictOf first second node k verdict x) (Some b) is = refl
-    heard_by (letters.Lend k fresh) None is = ap (λ o. map can (objects_of o)) (sym is)
+    heard_by (letters.Lend k fresh) None is = ap (λ o. map how (objects_of o)) (sym is)
     heard_by (letters.Lend k fresh) (Some b) is = refl
     heard_by (letters.Take stamp k live x) b is = refl
     heard_by (letters.Restore stamp k live) b is = refl
     heard_by (letters.Commit stamp k live) b is = refl
-    heard_by (letters.Resume stamp) None is = ap (λ o. map can (objects_of o)) (sym is)
-    heard_by (letters.Resume stamp) (Some b) is = refl
-    heard_by (letters.Died stamp slot line) None is = ap (λ o. map can (objects_of o)) (sym is)
+    heard_by (letters.Resume stamp) b is = refl
+    heard_by (letters.Died stamp slot line) None is = ap (λ o. map how (objects_of o)) (sym is)
     heard_by (letters.Died stamp slot line) (Some b) is = refl
-    heard_by letters.Stop None is = ap (λ o. map can (objects_of o)) (sym is)
+    heard_by letters.Stop None is = ap (λ o. map how (objects_of o)) (sym is)
     heard_by letters.Stop (Some b) is = refl
 
-    pub heard_marks : (letter : Letter) (able : List Bool) → able ≡ ables p n →
-        marked_by p (node_heard p script place letter n).node (reach_of letter) able ≡ ables p (node_heard p script place letter n).node
+    pub heard_marks : (letter : Letter) (kept : List Readiness) → kept ≡ seats_of p top n →
+        marked_by p top (node_heard p script place letter n).node (reach_of letter) kept ≡ seats_of p top (node_heard p script place letter n).node
     unfolding node_heard
-    heard_marks letter able is = ap (marked_by p (heard letter n.body) (reach_of letter)) is ∙ heard_by letter n.body refl
-
-  -- it packed, which touches no object
-  pub packed_marks : (script : List Fault) (k : ℕ) (n : NodeState) → ables p (node_packed p script k n).node ≡ ables p n
-  unfolding node_packed
-  packed_marks script k n = by n.body refl
-    where
-      by : (b : Option Body) → n.body ≡ b → map can (objects_of (node_packed_by p script k n b).node.body) ≡ map can (objects_of n.body)
-      by None is = refl
-      by (Some b) is = ap (λ o. map can (objects_of o)) (sym is)
+    heard_marks (letters.Parcel stamp entry k to payload) kept is = ap (marked_by p top (heard (letters.Parcel stamp entry k to payload) n.body) (Element to)) is ∙ heard_by (letters.Parcel stamp entry k to payload) n.body refl
+    heard_marks (letters.Partial stamp r k node value) kept is = is ∙ heard_by (letters.Partial stamp r k node value) n.body refl
+    heard_marks (letters.Total stamp r k value) kept is = refl
+    heard_marks (letters.Piece stamp x) kept is = is ∙ heard_by (letters.Piece stamp x) n.body refl
+    heard_marks (letters.VerdictOf first second node k verdict x) kept is = is ∙ heard_by (letters.VerdictOf first second node k verdict x) n.body refl
+    heard_marks (letters.Lend k fresh) kept is = is ∙ heard_by (letters.Lend k fresh) n.body refl
+    heard_marks (letters.Take stamp k live x) kept is = refl
+    heard_marks (letters.Restore stamp k live) kept is = refl
+    heard_marks (letters.Commit stamp k live) kept is = refl
+    heard_marks (letters.Resume stamp) kept is = refl
+    heard_marks (letters.Died stamp slot line) kept is = is ∙ heard_by (letters.Died stamp slot line) n.body refl
+    heard_marks letters.Stop kept is = is ∙ heard_by letters.Stop n.body refl
 
   -- ---- the first that can run
 
@@ -192,80 +249,59 @@ module _ (p : Plan) where
 
   -- one more: it can run, or the rest says which
   one_more : (before : List Progress) (o : Progress) (more : List Progress) (b : Bool) →
-      seated ((before ++ o ∷ []) ++ more) (first_able (length (before ++ o ∷ [])) (map can more)) ≡ first_running_of p p.iterations more →
-      seated (before ++ o ∷ more) (cond b (Some (length before)) (first_able (suc (length before)) (map can more))) ≡ cond b (Some o.element) (first_running_of p p.iterations more)
+      seated ((before ++ o ∷ []) ++ more) (first_able (length (before ++ o ∷ [])) (map how more)) ≡ first_running_of p top more →
+      seated (before ++ o ∷ more) (cond b (Some (length before)) (first_able (suc (length before)) (map how more))) ≡ cond b (Some o.element) (first_running_of p top more)
   one_more before o more true rest = ap element_in (at_end before o more)
   one_more before o more false rest =
-      ap (λ xs. seated xs (first_able (suc (length before)) (map can more))) (sym (joined before o more))
-      ∙ ap (λ i. seated ((before ++ o ∷ []) ++ more) (first_able i (map can more))) (sym (longer before o))
+      ap (λ xs. seated xs (first_able (suc (length before)) (map how more))) (sym (joined before o more))
+      ∙ ap (λ i. seated ((before ++ o ∷ []) ++ more) (first_able i (map how more))) (sym (longer before o))
       ∙ rest
 
-  first_from : (before all : List Progress) → seated (before ++ all) (first_able (length before) (map can all)) ≡ first_running_of p p.iterations all
+  first_from : (before all : List Progress) → seated (before ++ all) (first_able (length before) (map how all)) ≡ first_running_of p top all
   first_from before [] = refl
-  first_from before (o ∷ more) = one_more before o more (can o) (first_from (before ++ o ∷ []) more)
+  first_from before (o ∷ more) =
+      ap (λ b. seated (before ++ o ∷ more) (cond b (Some (length before)) (first_able (suc (length before)) (map how more)))) (able_is p top o)
+      ∙ one_more before o more (can_run p top o) (first_from (before ++ o ∷ []) more)
 
-  pub first_is : (n : NodeState) → rests n ≡ false → (able : List Bool) → able ≡ ables p n → seated (objects_of n.body) (first_able 0 able) ≡ first_running p p.iterations n
+  pub first_is : (n : NodeState) → rests n ≡ false → (kept : List Readiness) → kept ≡ seats_of p top n → seated (objects_of n.body) (first_able 0 kept) ≡ first_running p top n
   unfolding first_running
-  first_is n awake_now able is = ap (λ a. seated (objects_of n.body) (first_able 0 a)) is ∙ by n.body awake_now
+  first_is n awake_now kept is = ap (λ a. seated (objects_of n.body) (first_able 0 a)) is ∙ by n.body awake_now
     where
-      by : (b : Option Body) → rests_by b ≡ false → seated (objects_of b) (first_able 0 (map can (objects_of b))) ≡ first_running_of p p.iterations (awake b)
-      by None h = absurd cc
-      by (Some b) h = first_from [] b.objects ∙ ap (λ w. first_running_of p p.iterations (cond w [] b.objects)) (sym h)
+      by : (b : Option Body) → rests_by b ≡ false → seated (objects_of b) (first_able 0 (map how (objects_of b))) ≡ first_running_of p top (awake b)
+      by None h = absurd (let q : true ≡ false = h in cc)
+      by (Some b) h = first_from [] b.objects ∙ ap (λ w. first_running_of p top (cond w [] b.objects)) (sym h)
 
   -- a node that rests runs nothing
-  pub rests_is : (n : NodeState) (limit : ℕ) → rests n ≡ true → None ≡ first_running p limit n
+  pub rests_is : (n : NodeState) → rests n ≡ true → None ≡ first_running p top n
   unfolding first_running
-  rests_is n limit rest = by n.body rest
+  rests_is n rest = by n.body rest
     where
-      by : (b : Option Body) → rests_by b ≡ true → None ≡ first_running_of p limit (awake b)
+      by : (b : Option Body) → rests_by b ≡ true → None ≡ first_running_of p top (awake b)
       by None h = refl
-      by (Some b) h = ap (λ w. first_running_of p limit (cond w [] b.objects)) (sym h)
+      by (Some b) h = ap (λ w. first_running_of p top (cond w [] b.objects)) (sym h)
 
-  pub none_is : (n : NodeState) (able : List Bool) → rests n ≡ false → able ≡ ables p n → None ≡ first_able 0 able → None ≡ first_running p p.iterations n
-  none_is n able awake_now is none = ap (seated (objects_of n.body)) none ∙ first_is n awake_now able is
+  pub none_is : (n : NodeState) (kept : List Readiness) → rests n ≡ false → kept ≡ seats_of p top n → None ≡ first_able 0 kept → None ≡ first_running p top n
+  none_is n kept awake_now is none = ap (seated (objects_of n.body)) none ∙ first_is n awake_now kept is
 
-  pub some_is : (n : NodeState) (able : List Bool) (i : ℕ) (e : Option ElementId) → rests n ≡ false → able ≡ ables p n → Some i ≡ first_able 0 able → e ≡ element_in (slice_get (objects_of n.body) i) →
-      e ≡ first_running p p.iterations n
-  some_is n able i e awake_now is some there = there ∙ ap (seated (objects_of n.body)) some ∙ first_is n awake_now able is
+  pub some_is : (n : NodeState) (kept : List Readiness) (i : ℕ) (e : Option ElementId) → rests n ≡ false → kept ≡ seats_of p top n → Some i ≡ first_able 0 kept → e ≡ element_in (slice_get (objects_of n.body) i) →
+      e ≡ first_running p top n
+  some_is n kept i e awake_now is some there = there ∙ ap (seated (objects_of n.body)) some ∙ first_is n awake_now kept is
 
   -- ---- looking at all
 
-  split : (all : List Progress) (i : ℕ) → i < length all → map can (drop i all) ≡ at all i ∷ map can (drop (suc i) all)
+  split : (all : List Progress) (i : ℕ) → i < length all → map how (drop i all) ≡ at all i ∷ map how (drop (suc i) all)
   split [] i h = absurd (omega (arith, h))
   split (o ∷ more) zero h = refl
   split (o ∷ more) (suc i) h = split more i (omega (arith, h))
 
-  behind : (able rest : List Bool) (b : Bool) → (able ++ b ∷ []) ++ rest ≡ able ++ b ∷ rest
-  behind [] rest b = refl
-  behind (x ∷ able) rest b = ap (λ bs. x ∷ bs) (behind able rest b)
+  behind : (kept rest : List Readiness) (r : Readiness) → (kept ++ r ∷ []) ++ rest ≡ kept ++ r ∷ rest
+  behind [] rest r = refl
+  behind (x ∷ kept) rest r = ap (λ rs. x ∷ rs) (behind kept rest r)
 
-  pub next_seat : (n : NodeState) (able more : List Bool) (i : ℕ) (b : Bool) → i < length (objects_of n.body) → able ++ map can (drop i (objects_of n.body)) ≡ ables p n → b ≡ able_at p n i → more ≡ able ++ b ∷ [] →
-      more ++ map can (drop (i + 1) (objects_of n.body)) ≡ ables p n
-  next_seat n able more i b there so_far is pushed =
+  pub next_seat : (n : NodeState) (kept more : List Readiness) (i : ℕ) (r : Readiness) → i < length (objects_of n.body) → kept ++ map how (drop i (objects_of n.body)) ≡ seats_of p top n → r ≡ readiness_at p top n i → more ≡ kept ++ r ∷ [] →
+      more ++ map how (drop (i + 1) (objects_of n.body)) ≡ seats_of p top n
+  next_seat n kept more i r there so_far is pushed =
       let next : i + 1 ≡ suc i = omega arith in
-      ap (λ bs. bs ++ map can (drop (i + 1) (objects_of n.body))) pushed ∙ ap (λ k. (able ++ b ∷ []) ++ map can (drop k (objects_of n.body))) next
-      ∙ behind able (map can (drop (suc i) (objects_of n.body))) b
-      ∙ ap (λ c. able ++ c ∷ map can (drop (suc i) (objects_of n.body))) is ∙ ap (λ bs. able ++ bs) (sym (split (objects_of n.body) i there)) ∙ so_far
-
-  -- ---- a slot after an event
-
-  pub acted_is : (o : Outcome) (box : List Letter) (n : NodeState) (out : List Sent) (able : List Bool) (doing : Option Doing) →
-      ◌≡◌ {A = Outcome} (record { node = n; out = out }) o → able ≡ ables p n → doing ≡ doing_of p n box →
-      ◌≡◌ {A = Acted} (record { slot = record { node = n; box = box; able = able; doing = doing }; out = out }) (acted p o box)
-  acted_is o box n out able doing is kept told =
-      let with_able : List Bool → Acted = λ a. record { slot = record { node = n; box = box; able = a; doing = doing }; out = out } in
-      let with_doing : Option Doing → Acted = λ d. record { slot = record { node = n; box = box; able = ables p n; doing = d }; out = out } in
-      ap with_able kept ∙ ap with_doing told ∙ ap (λ x. acted p x box) is
-
-  pub ran_kept : (script : List Fault) (place : List ℕ) (limit e : ℕ) (n m : NodeState) (able : List Bool) → able ≡ ables p n → m ≡ (outcome_of (node_ran p script place limit e n)).node →
-      marked p m (seat_of m.roster e) able ≡ ables p m
-  ran_kept script place limit e n m able is after =
-      subst (λ x. marked p x (seat_of x.roster e) able ≡ ables p x) (sym after) (ran_marks script place limit e n able is)
-
-  pub heard_kept : (script : List Fault) (place : List ℕ) (letter : Letter) (n m : NodeState) (able : List Bool) → able ≡ ables p n → m ≡ (node_heard p script place letter n).node →
-      marked_by p m (reach_of letter) able ≡ ables p m
-  heard_kept script place letter n m able is after =
-      subst (λ x. marked_by p x (reach_of letter) able ≡ ables p x) (sym after) (heard_marks script place n letter able is)
-
-  pub packed_kept : (script : List Fault) (k : ℕ) (n m : NodeState) (able : List Bool) → able ≡ ables p n → m ≡ (node_packed p script k n).node → able ≡ ables p m
-  packed_kept script k n m able is after = is ∙ sym (packed_marks script k n) ∙ ap (ables p) (sym after)
+      ap (λ rs. rs ++ map how (drop (i + 1) (objects_of n.body))) pushed ∙ ap (λ k. (kept ++ r ∷ []) ++ map how (drop k (objects_of n.body))) next
+      ∙ behind kept (map how (drop (suc i) (objects_of n.body))) r
+      ∙ ap (λ c. kept ++ c ∷ map how (drop (suc i) (objects_of n.body))) is ∙ ap (λ rs. kept ++ rs) (sym (split (objects_of n.body) i there)) ∙ so_far

@@ -1,7 +1,7 @@
 //! Which move on the agreement is due to a slot.
 
-ghost use Rattle.std.specs.Prelude.{◌≡◌, false};
-ghost use Rattle.node_core.specs.Nodes.{next_begin, rests};
+ghost use Rattle.std.specs.Prelude.{◌≡◌, ◌==◌, ◌&&◌, false, nat_lt};
+ghost use Rattle.node_core.specs.Nodes.{all_at, next_begin, rests};
 ghost use Rattle.world_core.specs.Moves.{begin_due, begin_if, goes_to, is_below, is_resumed, limit_of, limit_seen, may_go_back, move_by, move_of, move_on, pack_due, release_due, report_due, same_round};
 ghost use Rattle.world_core.specs.Worlds.{seats_of};
 
@@ -150,7 +150,6 @@ fn report_due(standing: Standing, seen: Round) -> bool
 }
 
 // The agreed iteration, where all its elements have completed it and none has begun it.
-#[tactic(auto, using(crate::proofs::Counting::all_level))]
 fn pack_due(
     plan: &Plan,
     node: &Node,
@@ -169,7 +168,7 @@ fn pack_due(
             if standing.top == k
                 && k <= plan.iterations()
                 && !standing.packed
-                && seats.level() == seats.len()
+                && all_level(plan, standing.top, node, seats)
             {
                 Some(k)
             } else {
@@ -179,23 +178,42 @@ fn pack_due(
     }
 }
 
+// Whether all elements of a node are at the top: none is behind it, and none has begun it.
+#[tactic(auto, using(crate::proofs::Counting::all_level))]
+fn all_level(plan: &Plan, top: u64, node: &Node, seats: &SeatStates) -> bool
+    requires alive { rests node.now ≡ false }
+    requires seats { seats.now ≡ seats_of plan.now top node.now }
+    ensures { result ≡ all_at top node.now }
+{
+    let _ = plan;
+    let _ = top;
+    let _ = node;
+    seats.level() == seats.len()
+}
+
 // The next iteration of its elements, where that is its top and no limit holds it: none of them would begin one before it,
 // and one would begin it.
 #[tactic(auto, using(crate::proofs::Counting::begins_at_top))]
-fn begin_due(
-    plan: &Plan,
-    node: &Node,
-    standing: Standing,
-    seats: &SeatStates,
-) -> Option<SlotMove>
+fn begin_due(plan: &Plan, node: &Node, standing: Standing, seats: &SeatStates) -> Option<SlotMove>
     requires seats { seats.now ≡ seats_of plan.now standing.top node.now }
     requires roster { node.now.roster.iterations ≡ plan.now.iterations }
     ensures { result ≡ begin_due standing (next_begin node.now) }
 {
     let _ = node;
-    let k = standing.top;
-    let next = seats.behind() == 0 && seats.level() > 0 && k < plan.iterations();
+    let next = begins_by(
+        seats.behind(),
+        seats.level(),
+        standing.top,
+        plan.iterations(),
+    );
     begin_if(next, standing)
+}
+
+// Whether the top is the least iteration that one of so many would begin.
+fn begins_by(behind: usize, level: usize, top: u64, iterations: u64) -> bool
+    ensures { result ≡ (behind == 0 && nat_lt 0 level && nat_lt top iterations) }
+{
+    behind == 0 && level > 0 && top < iterations
 }
 
 fn begin_if(next: bool, standing: Standing) -> Option<SlotMove>

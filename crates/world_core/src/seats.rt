@@ -1,7 +1,7 @@
 //! How the objects of a slot's node stand, kept from event to event: an event touches one object or few, and looking at
 //! all of them each time would make a run quadratic in the elements of a node.
 
-ghost use Rattle.std.specs.Prelude.{◌≡◌, ◌≤◌, ◌<◌, ◌==◌, ◌&&◌, [], ◌∷◌, ◌++◌, IfSome, OnOk, None, Some, if◌then◌else◌, length, nat_lt, slice_set, take};
+ghost use Rattle.std.specs.Prelude.{◌≡◌, ◌≤◌, ◌<◌, ◌+◌, ◌^◌, ◌==◌, ◌&&◌, [], ◌∷◌, ◌++◌, IfSome, OnOk, None, Some, if◌then◌else◌, length, nat_lt, slice_set, take};
 ghost use Rattle.node_core.specs.Keeps.{Fitted};
 ghost use Rattle.node_core.specs.Rosters.{seat_of};
 ghost use Rattle.world_core.specs.Steps.{count, first_able, is_able, is_behind, is_level, marked, marked_by, reach_of, readiness_at};
@@ -65,6 +65,7 @@ impl SeatStates {
     /// One seat more.
     ///
     /// `Memory`: an allocation was refused.
+    #[tactic(auto, using(crate::proofs::Counting::count_push, crate::proofs::Counting::count_few))]
     pub fn push(&mut self, state: Readiness) -> Result<(), Memory>
         ensures { OnOk result (self.new ≡ self.old ++ state ∷ []) }
     {
@@ -76,13 +77,14 @@ impl SeatStates {
     }
 
     /// A seat is told again; one that isn't there changes nothing.
+    #[tactic(auto, using(crate::proofs::Counting::count_set, crate::proofs::Counting::count_one, crate::proofs::Counting::count_few, crate::proofs::Prefixes::set_clear, crate::proofs::Prefixes::set_within, crate::proofs::Prefixes::set_nowhere))]
     pub fn set(&mut self, seat: usize, state: Readiness)
         ensures { self.new ≡ slice_set self.old seat state }
     {
         if seat < self.states.len() {
             let old = self.states[seat];
-            self.behind = self.behind - one_if(is_behind(old)) + one_if(is_behind(state));
-            self.level = self.level - one_if(is_level(old)) + one_if(is_level(state));
+            self.behind = recounted(self.behind, is_behind(old), is_behind(state));
+            self.level = recounted(self.level, is_level(old), is_level(state));
             self.from = self.from.min(seat);
             self.states[seat] = state;
         }
@@ -128,6 +130,15 @@ fn one_if(test: bool) -> usize
     ensures { result ≡ (if test then 1 else 0) }
 {
     if test { 1 } else { 0 }
+}
+
+// A count after one of those that were counted is told again.
+fn recounted(count: usize, before: bool, after: bool) -> usize
+    requires counted { (if before then 1 else 0) ≤ count }
+    requires few { count < 2 ^ 63 }
+    ensures { result + (if before then 1 else 0) ≡ count + (if after then 1 else 0) }
+{
+    count - one_if(before) + one_if(after)
 }
 
 fn is_able(state: Readiness) -> bool
@@ -255,6 +266,7 @@ pub fn mark(plan: &Plan, top: u64, node: &Node, e: ElementId, seats: &mut SeatSt
 }
 
 // How the object of a seat stands to a top.
+#[tactic(auto, using(crate::proofs::Seating::told_at))]
 fn readiness_at(plan: &Plan, top: u64, node: &Node, seat: usize) -> Readiness
     requires { Fitted plan.now node.now }
     ensures { result ≡ readiness_at plan.now top node.now seat }

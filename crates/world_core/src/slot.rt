@@ -1,18 +1,16 @@
 //! A slot with its inbox.
 
-ghost use Rattle.std.specs.Prelude.{◌≡◌, ◌==◌, ◌&&◌, ◌++◌, ◌∷◌, [], ℕ, List, length, true, OnOk, IfOk, Some, None};
+ghost use Rattle.std.specs.Prelude.{◌≡◌, ◌==◌, ◌&&◌, [], length, OnOk, IfOk, Some, None};
 ghost use Rattle.chare_base.specs.Elements.{elements};
 ghost use Rattle.fault_script.specs.Lines.{faults_of};
 ghost use Rattle.iteration_agree.specs.Cuts.{HasSlot, packed_by, slot_of};
-ghost use Rattle.iteration_agree.specs.Under.{MayPack};
-ghost use Rattle.node_core.specs.Keeps.{Fitted};
-ghost use Rattle.node_core.specs.Nodes.{first_running, node_packed, node_ran, out_of, outcome_of};
+ghost use Rattle.node_core.specs.Nodes.{first_running, node_packed, out_of};
 ghost use Rattle.node_core.specs.Starts.{start_state};
 ghost use Rattle.world_core.specs.declared.doing.Since.TheVariants.{Nothing};
-ghost use Rattle.world_core.specs.Moves.{move_of};
+ghost use Rattle.world_core.specs.declared.doing.SlotMove.TheVariants.{Pack};
 ghost use Rattle.world_core.specs.Sound.{Served};
-ghost use Rattle.world_core.specs.Steps.{Fresh, Renews, can_hear, can_move, can_run_on, setting};
-ghost use Rattle.world_core.specs.Worlds.{MayMove, acted, back_by, run_due, shifted, with_back, again, back_after, does, doing_of, idle_doing, moved_in, ordered_after, renewed, resumed_after, seats_of, since_after, slot_heard, slot_move, slot_moved, slot_moved_by, slot_put, slot_ran, stand};
+ghost use Rattle.world_core.specs.Steps.{Fresh, Renews, can_hear, can_run_on, setting};
+ghost use Rattle.world_core.specs.Worlds.{MayMove, acted, back_by, run_due, shifted, with_back, again, back_after, does, doing_of, idle_doing, moved_in, ordered_after, renewed, resumed_after, seats_of, since_after, slot_heard, slot_move, slot_moved, slot_moved_by, slot_put, slot_ran};
 
 use crate::doing::{Doing, Since, SlotMove};
 use crate::inbox::Inbox;
@@ -241,12 +239,7 @@ fn run_due(
 
 // The least element that can run.
 #[tactic(auto, using(crate::proofs::Seating::rests_is, crate::proofs::Seating::none_is, crate::proofs::Seating::some_is))]
-fn first_running(
-    plan: &Plan,
-    node: &Node,
-    top: u64,
-    seats: &mut SeatStates,
-) -> Option<ElementId>
+fn first_running(plan: &Plan, node: &Node, top: u64, seats: &mut SeatStates) -> Option<ElementId>
     requires { seats.old ≡ seats_of plan.now top node.now }
     ensures first { result ≡ first_running plan.now top node.now }
     ensures stays { seats.new ≡ seats.old }
@@ -302,6 +295,7 @@ impl Slot {
         requires served { Served (setting plan.now (faults_of script.now) (M.place map.now) (M.count map.now)) cut.now self.old }
         ensures { IfOk result (λ out. record { slot = self.new; cut = cut.now; out = out } ≡ slot_ran (setting plan.now (faults_of script.now) (M.place map.now) (M.count map.now)) cut.now e self.old) }
     {
+        nodes_keep();
         if self.back.is_some() {
             return Ok(Outbox::new(alloc));
         }
@@ -327,6 +321,7 @@ impl Slot {
         requires served { Served (setting plan.now (faults_of script.now) (M.place map.now) (M.count map.now)) cut.now self.old }
         ensures { IfOk result (λ out. record { slot = self.new; cut = cut.now; out = out } ≡ slot_heard (setting plan.now (faults_of script.now) (M.place map.now) (M.count map.now)) cut.now self.old self.old.box) }
     {
+        nodes_keep();
         match self.inbox.take() {
             Some(letter) => {
                 let standing = cut.standing(self.node.slot());
@@ -374,17 +369,53 @@ impl Slot {
     {
         match self.due_move(plan, cut) {
             None => Ok(Outbox::new(alloc)),
-            Some(SlotMove::Pack { k }) => self.pack(alloc, plan, script, k, cut),
-            Some(due) => {
-                self.move_in(due, cut);
-                self.renew(plan, cut)?;
-                Ok(Outbox::new(alloc))
-            }
+            Some(due) => self.make(alloc, plan, script, map, due, cut),
+        }
+    }
+
+    // Makes a move that is due.
+    fn make<M: Placement>(
+        &mut self,
+        alloc: Global,
+        plan: &Plan,
+        script: &Script,
+        map: &M,
+        due: SlotMove,
+        cut: &mut Cut,
+    ) -> Result<Outbox, Memory>
+        requires served { Served (setting plan.now (faults_of script.now) (M.place map.now) (M.count map.now)) cut.old self.old }
+        requires due { slot_move plan.now cut.old self.old ≡ Some due }
+        ensures { IfOk result (λ out. record { slot = self.new; cut = cut.new; out = out } ≡ slot_moved_by (setting plan.now (faults_of script.now) (M.place map.now) (M.count map.now)) cut.old self.old (Some due)) }
+    {
+        match due {
+            SlotMove::See => self.shift(alloc, plan, due, cut),
+            SlotMove::Rewind { .. } => self.shift(alloc, plan, due, cut),
+            SlotMove::Release => self.shift(alloc, plan, due, cut),
+            SlotMove::Report => self.shift(alloc, plan, due, cut),
+            SlotMove::Pack { k } => self.pack(alloc, plan, script, map, k, cut),
+            SlotMove::Begin { .. } => self.shift(alloc, plan, due, cut),
         }
     }
 }
 
 impl Slot {
+    // Makes a move that touches the agreement alone.
+    fn shift(
+        &mut self,
+        alloc: Global,
+        plan: &Plan,
+        due: SlotMove,
+        cut: &mut Cut,
+    ) -> Result<Outbox, Memory>
+        requires renews { Renews plan.now cut.old self.old }
+        requires may { MayMove due (slot_of cut.old self.old.node.slot) }
+        ensures { IfOk result (λ out. record { slot = self.new; cut = cut.new; out = out } ≡ moved_in plan.now self.old due cut.old) }
+    {
+        self.move_in(due, cut);
+        self.renew(plan, cut)?;
+        Ok(Outbox::new(alloc))
+    }
+
     // Makes a move on the agreement that isn't a pack.
     fn move_in(&mut self, due: SlotMove, cut: &mut Cut)
         requires slot { HasSlot cut.old self.old.node.slot }
@@ -413,18 +444,21 @@ impl Slot {
     }
 
     // Packs at an iteration that all its elements have completed.
-    fn pack(
+    fn pack<M: Placement>(
         &mut self,
         alloc: Global,
         plan: &Plan,
         script: &Script,
+        map: &M,
         k: u64,
         cut: &mut Cut,
     ) -> Result<Outbox, Memory>
-        requires served { (place : List ℕ) (nodes : ℕ) → Keeps plan.now (faults_of script.now) place self.old.node }
-        requires may { MayPack (slot_of cut.old self.old.node.slot) }
+        requires served { Served (setting plan.now (faults_of script.now) (M.place map.now) (M.count map.now)) cut.old self.old }
+        requires due { slot_move plan.now cut.old self.old ≡ Some (Pack k) }
         ensures { IfOk result (λ out. record { slot = self.new; cut = cut.new; out = out } ≡ acted plan.now (packed_by self.old.node.slot cut.old) (node_packed plan.now (faults_of script.now) k self.old.node) self.old.box self.old.back Nothing) }
     {
+        let _ = map;
+        nodes_keep();
         let slot = self.node.slot();
         let out = self.node.pack(alloc, plan, script, k)?;
         cut.pack(slot);

@@ -128,7 +128,14 @@ impl World {
         requires { AllByRecursion (Fresh plan.now self.now.cut) self.now.posts.slots }
         ensures { result ≡ can_act plan.now self.now.cut doing (slot_at (M.count map.now) self.now.posts.slots slot) }
     {
-        can_act(plan, map.nodes(), &self.cut, self.slots.as_slice(), slot, doing)
+        can_act(
+            plan,
+            map.nodes(),
+            &self.cut,
+            self.slots.as_slice(),
+            slot,
+            doing,
+        )
     }
 
     // The event that the conductor would make.

@@ -1,4 +1,6 @@
-use Rattle.std.proofs.Common.{◌≡◌, ◌∙◌, ◌++◌, ap, List, []}
+use Rattle.std.proofs.Common.{◌≡◌, ◌∙◌, ◌++◌, ◌<◌, ap, sym, arith, List, []}
+use Rattle.iteration_agree.specs.Cuts.{CutState}
+use Rattle.world_core.proofs.Opening.{opened_nodes}
 use Rattle.chare_base.specs.declared.slots.LineSet.{LineSet}
 use Rattle.fault_script.specs.declared.fault.Fault.{Fault}
 use Rattle.fault_script.specs.Lines.{faults_of}
@@ -12,3 +14,9 @@ loop-node-preserved g c =
     let s : Setting = setting c.args.plan.now (faults_of c.args.script.now) (g.M.Placement.place c.args.map.now) (g.M.Placement.count c.args.map.now) in
     next_slot s c.args.replica c.loop-node.node c.all_lines-live.result c.args.cut.now c.args.slots.now.items c.loop-node.slots.items c.in_ok-start.field-0 c.push.new.self.items
     c.all_lines-live.ensures c.requires.cut c.loop-node.invariant c.in_ok-start.ensures c.in_ok-push.ensures.items
+
+pub start-requires-clause-slot : goal.start-requires-clause-slot
+start-requires-clause-slot g c =
+    let all = opened_nodes (g.M.Placement.count c.args.map.now) c.args.cut.now c.requires.cut in
+    let within : c.loop-node.node < c.args.cut.now.nodes = omega (arith, c.loop-node-test.true, c.nodes-node-end.ensures.exact, all) in
+    (c.requires.replica, within)
