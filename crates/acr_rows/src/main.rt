@@ -45,13 +45,14 @@ use std::alloc::Global;
 use std::fs;
 
 /// The files of cases, in the order in which they are run.
-const FILES: [&str; 9] = [
+const FILES: [&str; 10] = [
     "calls.rows",
     "jobs.rows",
     "grammar.rows",
     "rules.rows",
     "limits.rows",
     "nodes.rows",
+    "scripts.rows",
     "random_jobs.rows",
     "random_faults.rows",
     "random_nodes.rows",
