@@ -1,5 +1,5 @@
 -- What an input is owed, by its tree and its plan.
-use Rattle.std.proofs.Common.{◌≡◌, ℕ, Bool, true, false, List, [], ◌∷◌, ap, sym, refl, ◌∙◌, subst, codes, length, ◌≤◌, Some, Result, Ok, Err, IfOk, inl, inr}
+use Rattle.std.proofs.Common.{◌≡◌, ℕ, true, false, List, [], ◌∷◌, ap, sym, refl, ◌∙◌, subst, codes, length, ◌≤◌, Some, Result, Ok, Err, IfOk, inl, inr}
 use Rattle.chare_base.specs.declared.memory.Memory.{Memory}
 use Rattle.chare_base.specs.declared.plan.Plan.{Plan}
 use Rattle.job_rules.specs.declared.fault.CheckFault.{CheckFault}

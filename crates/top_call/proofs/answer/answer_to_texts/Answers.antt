@@ -1,4 +1,3 @@
-use Rattle.std.proofs.Common.{rules}
 use Rattle.top_call.proofs.Plans.{broken, due_job, due_plan, is_plan}
 use Rattle.top_call.proofs.answer.answer_to_texts.Goals as goal
 

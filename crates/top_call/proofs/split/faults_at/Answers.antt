@@ -1,6 +1,5 @@
-use Rattle.std.proofs.Common.{◌≡◌, ◌+◌, codes, length, drop, ap, sym, ◌∙◌, refl, arith, rules}
-use Rattle.top_call.specs.Split.{faults_at}
-use Rattle.top_call.proofs.Lines.{found, found_last, none_last, on, opening, passed}
+use Rattle.std.proofs.Common.{arith, rules}
+use Rattle.top_call.proofs.Lines.{found, found_last, none_last, opening, passed}
 use Rattle.top_call.proofs.split.faults_at.Goals as goal
 
 pub loop-end-init : goal.loop-end-init
