@@ -1,5 +1,5 @@
 -- The command grammar, over words as bytes.
-use Rattle.std.specs.Prelude.{ℕ, ◌≤◌, ◌^◌, ◌-◌, if◌then◌else◌, List, [], ◌∷◌, codes, length, take, drop, Option, Some, None, IfSome, unwrap_or}
+use Rattle.std.specs.Prelude.{◌≡◌, ℕ, ◌≤◌, ◌^◌, ◌-◌, if◌then◌else◌, List, [], ◌∷◌, codes, length, take, drop, Option, Some, None, IfSome, unwrap_or}
 use Rattle.std.specs.Str.{bytes_eq}
 use Rattle.chare_base.specs.declared.options.Mode.TheVariants.{Strong}
 use Rattle.command_words.specs.declared.command.Command.{Command}
@@ -109,9 +109,9 @@ command_in (word ∷ more) = if bytes_eq word (codes "drill") then command_from 
 
 -- ---- what is known of a command, and of what was given
 
--- its options are within their limits
+-- its options are within their limits; the mode is strong, as no word names another
 abbrev pub Bounded : Command → Type 0
-Bounded (Drill o schedule) = (1 ≤ o.nodes) × (o.nodes ≤ 32) × (1 ≤ o.every) × (o.every ≤ 1000000)
+Bounded (Drill o schedule) = (1 ≤ o.nodes) × (o.nodes ≤ 32) × (1 ≤ o.every) × (o.every ≤ 1000000) × (o.mode ≡ Strong)
 
 abbrev pub NodesFit : Option ℕ → Type 0
 NodesFit nodes = IfSome nodes (λ n. (1 ≤ n) × (n ≤ 32))

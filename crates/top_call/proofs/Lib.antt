@@ -2,3 +2,4 @@ pub mod Lengths
 pub mod Plans
 pub mod Tops
 pub mod Refusals
+pub mod Lines

@@ -1,5 +1,5 @@
 -- What an input is owed, by its tree and its plan.
-use Rattle.std.proofs.Common.{◌≡◌, ℕ, List, [], ap, sym, refl, ◌∙◌, subst, codes, length, ◌≤◌, Some, Result, Ok, Err, IfOk, inl, inr}
+use Rattle.std.proofs.Common.{◌≡◌, ℕ, Bool, true, false, List, [], ◌∷◌, ap, sym, refl, ◌∙◌, subst, codes, length, ◌≤◌, Some, Result, Ok, Err, IfOk, inl, inr}
 use Rattle.chare_base.specs.declared.memory.Memory.{Memory}
 use Rattle.chare_base.specs.declared.plan.Plan.{Plan}
 use Rattle.job_rules.specs.declared.fault.CheckFault.{CheckFault}
@@ -15,14 +15,22 @@ use Rattle.job_tree.specs.declared.tree.Job.{Job as Tree}
 use Rattle.job_tree.specs.Text.{ReadsAs, ReadsAsNone, TextFault}
 use Rattle.run_ledger.specs.declared.record.Record.{Record}
 use Rattle.run_ledger.specs.Lawful.{Lawful}
+use Rattle.chare_base.specs.declared.options.Mode.TheVariants.{Strong}
 use Rattle.chare_base.specs.declared.options.Options.{Options}
 use Rattle.world_core.specs.Drills.{drilled}
-use Rattle.run_report.specs.Laws.{ReportsAreFaultFree}
-use Rattle.run_report.specs.Report.{report}
+use Rattle.fault_script.specs.declared.fault.FaultLine.{FaultLine}
+use Rattle.fault_script.specs.declared.reading.ScriptFault.{ScriptFault}
+use Rattle.fault_script.specs.declared.reading.ScriptFault.TheVariants as script_faults
+use Rattle.fault_script.specs.Lines.{faults_of}
+use Rattle.fault_script.specs.Reading.{IsScript, Reads, script_of}
+use Rattle.fault_script.specs.Wording.{word_told}
+use Rattle.run_report.specs.Laws.{ReportsAreFaultFree, StrongReportsAreRight}
+use Rattle.run_report.specs.Report.{plain_report, report}
 use Rattle.top_call.specs.declared.answer.Answer.{Answer}
 use Rattle.top_call.specs.declared.status.Status.{Status}
 use Rattle.top_call.specs.declared.status.Status.TheVariants as statuses
-use Rattle.top_call.specs.Due.{DueDrill, DueRun, IsReport, job_line}
+use Rattle.top_call.specs.Due.{DueDrill, DueJob, DueRun, DueTexts, IsReport, has_crash, job_line, script_line}
+use Rattle.top_call.specs.Split.{job_text, script_text}
 
 -- a text that the grammar refuses
 pub not_read : (input : List ℕ) (f : ParseFault) (at code : ℕ) → TextFault input f → ((f ≡ parses.Memory → ⊥) → ReadsAsNone input) →
@@ -59,36 +67,103 @@ is_plan input text job p same reads answered = record {
   plans = answered.1 ∙ ap (λ t. plan_of t job) same;
 }
 
--- a report of a lawful ending without faults
-pub is_report : ReportsAreFaultFree → (p : Plan) (o : Options) (schedule : ℕ) (text : List ℕ) (records : List Record) → records ≡ (drilled p [] o schedule).conductor.records → Lawful p [] o records →
-    text ≡ report p [] o records → IsReport p o schedule text
-is_report fault_free p o schedule text records reached lawful is = record {
+-- ---- reports
+
+free : ReportsAreFaultFree → (p : Plan) (script : List FaultLine) (o : Options) (records : List Record) → script ≡ [] → Lawful p (faults_of script) o records → report p script o records ≡ plain_report p script o records
+free fault_free p [] o records none lawful = fault_free p o records lawful
+free fault_free p (line ∷ more) o records none lawful = cc
+
+-- a report of a lawful ending
+pub is_report : ReportsAreFaultFree → StrongReportsAreRight → (p : Plan) (script : List FaultLine) (o : Options) (schedule : ℕ) (text : List ℕ) (records : List Record) → o.mode ≡ Strong →
+    records ≡ (drilled p script o schedule).conductor.records → Lawful p (faults_of script) o records → text ≡ report p script o records → IsReport p script o schedule text
+is_report fault_free right p script o schedule text records strong reached lawful is = record {
   records = records;
   reached = reached;
   lawful = lawful;
   reports = is;
-  fault_free = is ∙ fault_free p o records lawful;
+  right = λ apart. is ∙ right p script o records strong apart lawful;
+  fault_free = λ none. is ∙ free fault_free p script o records none lawful;
 }
 
--- the answer to an input that is no job
-pub due_job : RefusedHasNone → (o : Options) (schedule : ℕ) (input : List ℕ) (at code : ℕ) → length input ≤ 262144 → ((code ≡ 0 → ⊥) → IsRefused input at code) → (r : Result Answer Memory) →
-    IfOk r (λ a. a.status ≡ statuses.Job) → IfOk r (λ a. a.text ≡ job_line (wording input at code)) → IfOk r (λ a. code ≡ 0 → ⊥) → IfOk r (λ a. DueDrill o schedule input a.status a.text)
-due_job none o schedule input at code fits refused (Ok a) status text word =
-    subst (λ (s : Status). DueDrill o schedule input s a.text) (sym status) (fits, none input at code (refused word), (at, code, refused word, text))
-due_job none o schedule input at code fits refused (Err e) status text word = tt
+-- ---- scripts
 
--- the answer to a job, by what is due to its plan
-pub due_run : (o : Options) (schedule : ℕ) (input : List ℕ) (p : Plan) → length input ≤ 262144 → IsPlan input p → (r : Result Answer Memory) →
-    IfOk r (λ a. DueRun o schedule p a.status a.text) → IfOk r (λ a. DueDrill o schedule input a.status a.text)
-due_run o schedule input p fits is (Ok a) due = by a.status due
+-- the answer to a text that is no script
+pub no_script : (o : Options) (schedule : ℕ) (p : Plan) (script : List ℕ) (f : ScriptFault) → Reads (script_of p o.nodes script) (Err f) → (r : Result Answer Memory) →
+    IfOk r (λ a. a.status ≡ statuses.Script) → IfOk r (λ a. a.text ≡ script_line f) → IfOk r (λ a. word_told f ≡ [] → ⊥) → IfOk r (λ a. DueJob o schedule p script a.status a.text)
+no_script o schedule p script f reads (Ok a) status text real =
+    subst (λ (s : Status). DueJob o schedule p script s a.text) (sym status) (inl (f, is f reads real, text))
   where
-    by : (s : Status) → DueRun o schedule p s a.text → DueDrill o schedule input s a.text
-    by statuses.Done due = (fits, (p, is, due))
-    by statuses.Still due = (fits, (p, is, due))
-    by statuses.Usage due = (fits, (p, is, due))
+    is : (f : ScriptFault) → Reads (script_of p o.nodes script) (Err f) → (word_told f ≡ [] → ⊥) → script_of p o.nodes script ≡ Err f
+    is (script_faults.Lines line) reads real = reads
+    is (script_faults.Form line) reads real = reads
+    is (script_faults.NoSuch line) reads real = reads
+    is (script_faults.Range line) reads real = reads
+    is script_faults.Memory reads real = absurd (real refl)
+no_script o schedule p script f reads (Err e) status text real = tt
+
+-- the answer to a script with a crash line
+pub unbuilt : (o : Options) (schedule : ℕ) (p : Plan) (script : List ℕ) (lines : List FaultLine) → IsScript p o.nodes script lines → has_crash lines ≡ true → (r : Result Answer Memory) →
+    IfOk r (λ a. a.status ≡ statuses.Script) → IfOk r (λ a. a.text ≡ codes "unbuilt\n") → IfOk r (λ a. DueJob o schedule p script a.status a.text)
+unbuilt o schedule p script lines is crash (Ok a) status text = subst (λ (s : Status). DueJob o schedule p script s a.text) (sym status) (inr (lines, is, crash, text))
+unbuilt o schedule p script lines is crash (Err e) status text = tt
+
+-- the answer to a script without one, by what is due to its run
+pub due_script : (o : Options) (schedule : ℕ) (p : Plan) (script : List ℕ) (lines : List FaultLine) → IsScript p o.nodes script lines → has_crash lines ≡ false → (r : Result Answer Memory) →
+    IfOk r (λ a. DueRun o schedule p lines a.status a.text) → IfOk r (λ a. DueJob o schedule p script a.status a.text)
+due_script o schedule p script lines is none (Ok a) due = by a.status due
+  where
+    by : (s : Status) → DueRun o schedule p lines s a.text → DueJob o schedule p script s a.text
+    by statuses.Done due = (lines, is, none, due)
+    by statuses.Still due = (lines, is, none, due)
+    by statuses.Usage due = (lines, is, none, due)
+    by statuses.Script due = absurd due
     by statuses.Job due = absurd due
     by statuses.Long due = absurd due
     by statuses.Read due = absurd due
     by statuses.Write due = absurd due
     by statuses.Memory due = absurd due
-due_run o schedule input p fits is (Err e) due = tt
+due_script o schedule p script lines is none (Err e) due = tt
+
+-- ---- the two texts
+
+-- the answer to a text that is no job
+pub due_job : RefusedHasNone → (o : Options) (schedule : ℕ) (job script : List ℕ) (at code : ℕ) → ((code ≡ 0 → ⊥) → IsRefused job at code) → (r : Result Answer Memory) →
+    IfOk r (λ a. a.status ≡ statuses.Job) → IfOk r (λ a. a.text ≡ job_line (wording job at code)) → IfOk r (λ a. code ≡ 0 → ⊥) → IfOk r (λ a. DueTexts o schedule job script a.status a.text)
+due_job none o schedule job script at code refused (Ok a) status text word =
+    subst (λ (s : Status). DueTexts o schedule job script s a.text) (sym status) (none job at code (refused word), (at, code, refused word, text))
+due_job none o schedule job script at code refused (Err e) status text word = tt
+
+-- the answer to a job, by what is due to its plan
+pub due_plan : (o : Options) (schedule : ℕ) (job script : List ℕ) (p : Plan) → IsPlan job p → (r : Result Answer Memory) →
+    IfOk r (λ a. DueJob o schedule p script a.status a.text) → IfOk r (λ a. DueTexts o schedule job script a.status a.text)
+due_plan o schedule job script p is (Ok a) due = by a.status due
+  where
+    by : (s : Status) → DueJob o schedule p script s a.text → DueTexts o schedule job script s a.text
+    by statuses.Done due = (p, is, due)
+    by statuses.Still due = (p, is, due)
+    by statuses.Usage due = (p, is, due)
+    by statuses.Script due = (p, is, due)
+    by statuses.Job (lines, reads, kept, due) = absurd due
+    by statuses.Long due = (p, is, due)
+    by statuses.Read due = (p, is, due)
+    by statuses.Write due = (p, is, due)
+    by statuses.Memory due = (p, is, due)
+due_plan o schedule job script p is (Err e) due = tt
+
+-- the answer to an input that isn't too long, by what is due to its texts
+pub due_drill : (o : Options) (schedule : ℕ) (input job script : List ℕ) → length input ≤ 262144 → job ≡ job_text input → script ≡ script_text input → (r : Result Answer Memory) →
+    IfOk r (λ a. DueTexts o schedule job script a.status a.text) → IfOk r (λ a. DueDrill o schedule input a.status a.text)
+due_drill o schedule input job script fits is_job is_script (Ok a) due =
+    by a.status (subst (λ t. DueTexts o schedule t (script_text input) a.status a.text) is_job (subst (λ t. DueTexts o schedule job t a.status a.text) is_script due))
+  where
+    by : (s : Status) → DueTexts o schedule (job_text input) (script_text input) s a.text → DueDrill o schedule input s a.text
+    by statuses.Done due = (fits, due)
+    by statuses.Still due = (fits, due)
+    by statuses.Usage due = (fits, due)
+    by statuses.Script due = (fits, due)
+    by statuses.Job due = (fits, due)
+    by statuses.Long (p, is, (lines, reads, kept, due)) = absurd due
+    by statuses.Read due = (fits, due)
+    by statuses.Write due = (fits, due)
+    by statuses.Memory due = (fits, due)
+due_drill o schedule input job script fits is_job is_script (Err e) due = tt

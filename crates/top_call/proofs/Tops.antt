@@ -8,7 +8,7 @@ use Rattle.std.specs.Process.{exit_status}
 use Rattle.std.specs.Io.KnownBytes.{Appends}
 use Rattle.std.proofs.KnownBytes.{Appends-nil}
 use Rattle.top_call.specs.declared.status.Status.{Status}
-use Rattle.top_call.specs.declared.status.Status.TheVariants.{Done, Usage, Job, Long, Read, Write, Memory, Still}
+use Rattle.top_call.specs.declared.status.Status.TheVariants.{Done, Usage, Job, Script, Long, Read, Write, Memory, Still}
 use Rattle.top_call.specs.Due.{Answers, Came, Due, DueAfter, DueBy, DueText, Ends, Written, asked, code_of}
 use Rattle.command_words.specs.declared.command.Command.{Command}
 use Rattle.command_words.specs.declared.command.Command.TheVariants.{Drill}
@@ -32,16 +32,17 @@ module _ (words : List (String Global)) (left left' : Option (List ℕ)) (faults
 
   none_written : (c : Option Command) → DueBy c left left' faults faults' Write text → ⊥
   none_written None due = due
-  none_written (Some (Drill o schedule)) (input, came, due) = due.1.2
+  none_written (Some (Drill o schedule)) (input, came, (fits, (p, is, (lines, reads, kept, due)))) = due
 
   none_kept : (c : Option Command) → DueBy c left left' faults faults' Memory text → ⊥
   none_kept None due = due
-  none_kept (Some (Drill o schedule)) (input, came, due) = due.1.2
+  none_kept (Some (Drill o schedule)) (input, came, (fits, (p, is, (lines, reads, kept, due)))) = due
 
   whole : (status : Status) → IsDue status → Appends given given' text → Clause status
   whole Done due all = (text, due, all)
   whole Usage due all = (text, due, all)
   whole Job due all = (text, due, all)
+  whole Script due all = (text, due, all)
   whole Long due all = (text, due, all)
   whole Read due all = (text, due, all)
   whole Still due all = (text, due, all)
@@ -57,11 +58,12 @@ module _ (words : List (String Global)) (left left' : Option (List ℕ)) (faults
   after command input came Done due = (input, came, due)
   after command input came Usage due = (input, came, due)
   after command input came Job due = (input, came, due)
+  after command input came Script due = (input, came, due)
   after command input came Long due = (input, came, due)
   after command input came Still due = (input, came, due)
-  after (Drill o schedule) input came Read due = absurd due.1.2
-  after (Drill o schedule) input came Write due = absurd due.1.2
-  after (Drill o schedule) input came Memory due = absurd due.1.2
+  after (Drill o schedule) input came Read (fits, (p, is, (lines, reads, kept, due))) = absurd due
+  after (Drill o schedule) input came Write (fits, (p, is, (lines, reads, kept, due))) = absurd due
+  after (Drill o schedule) input came Memory (fits, (p, is, (lines, reads, kept, due))) = absurd due
 
   pub due_of : (command : Command) (input piece made : List ℕ) (status : Status) → asked words ≡ Some command → Came left left' input → piece ≡ input → text ≡ made → Due command piece status made → IsDue status
   due_of command input piece made status asks came same is due =

@@ -3,7 +3,7 @@ use Rattle.std.specs.Prelude.{ℕ, ◌<◌, ◌≤◌, List, Option, Some, ⊤, 
 use Rattle.std.specs.declared.string.String.{String}
 use Rattle.std.specs.declared.alloc.Global.{Global}
 use Rattle.top_call.specs.declared.status.Status.{Status}
-use Rattle.top_call.specs.declared.status.Status.TheVariants.{Done, Job, Long, Still}
+use Rattle.top_call.specs.declared.status.Status.TheVariants.{Done, Job, Script, Long, Still}
 use Rattle.top_call.specs.Due.{Answers}
 
 -- what a status says of how many bytes there were
@@ -11,6 +11,7 @@ abbrev pub SaysLength : ℕ → Status → Type 0
 SaysLength n Long = 262144 < n
 SaysLength n Done = n ≤ 262144
 SaysLength n Job = n ≤ 262144
+SaysLength n Script = n ≤ 262144
 SaysLength n Still = n ≤ 262144
 SaysLength n _ = ⊤
 

@@ -3,10 +3,12 @@
 ghost use Rattle.std.specs.Prelude.{◌≡◌, ◌≤◌, codes, length, IfOk};
 ghost use Rattle.chare_checker.specs.Wording.{wording};
 ghost use Rattle.command_words.specs.Grammar.{Bounded};
-ghost use Rattle.top_call.specs.Due.{Due, DueDrill, job_line};
+ghost use Rattle.chare_base.specs.declared.options.Mode.TheVariants.{Strong};
+ghost use Rattle.top_call.specs.Due.{Due, DueDrill, DueTexts, job_line};
 
-use crate::drill::drilled;
 use crate::refusal::job_line;
+use crate::script::scripted;
+use crate::split::split;
 use crate::status::Status;
 use chare_base::bytes::Bytes;
 use chare_base::memory::Memory;
@@ -28,9 +30,11 @@ pub struct Answer {
     pub text: Bytes,
 }
 
-/// The answer that is due to an input after a command. For a drill: the report of its run; `still` where the run stands
-/// still before its end; `nodes` where there are more nodes than elements; where the input is no job, `job` with the
-/// line, the column and the word of the first fault; or `long` where it has more than 262,144 bytes.
+/// The answer that is due to an input after a command. For a drill: the report of its run under the input's script; `still`
+/// where the run stands still before its end; `nodes` where there are more nodes than elements; `script` with a line and a
+/// word where the script isn't one for the job and the nodes, and `unbuilt` where it has a crash line; `job` with the line,
+/// the column and the word of the first fault, where the job's text is no job; or `long` where the input has more than
+/// 262,144 bytes.
 pub fn answer_to(alloc: Global, command: Command, input: &[u8]) -> Result<Answer, Memory>
     requires { Bounded command }
     ensures { IfOk result (λ answer. Due command input.now answer.status answer.text) }
@@ -46,31 +50,52 @@ fn answer_to_drill(
     schedule: u64,
     input: &[u8],
 ) -> Result<Answer, Memory>
-    requires { 1 ≤ options.nodes }
+    requires some { 1 ≤ options.nodes }
+    requires bounded { options.nodes ≤ 32 }
+    requires strong { options.mode ≡ Strong }
     ensures { IfOk result (λ answer. DueDrill options schedule input.now answer.status answer.text) }
 {
     if input.len() > INPUT_LIMIT {
         return too_long(alloc);
     }
-    // So an input that is refused has no plan.
+    let (job, script) = split(input);
+    answer_to_texts(alloc, &options, schedule, job, script)
+}
+
+// The answer to the two texts of an input: the job's and the script's.
+fn answer_to_texts(
+    alloc: Global,
+    options: &Options,
+    schedule: u64,
+    job: &[u8],
+    script: &[u8],
+) -> Result<Answer, Memory>
+    requires some { 1 ≤ options.now.nodes }
+    requires bounded { options.now.nodes ≤ 32 }
+    requires strong { options.now.mode ≡ Strong }
+    requires short_job { length job.now ≤ 262144 }
+    requires short_script { length script.now ≤ 262144 }
+    ensures { IfOk result (λ answer. DueTexts options.now schedule job.now script.now answer.status answer.text) }
+{
+    // So a text that is refused has no plan.
     refused_has_none();
-    let ast = match parse(alloc, input) {
+    let ast = match parse(alloc, job) {
         Ok(ast) => ast,
-        Err(fault) => return no_job(alloc, input, parse_place(fault), parse_code(fault)),
+        Err(fault) => return no_job(alloc, job, parse_place(fault), parse_code(fault)),
     };
     let plan = match check(alloc, &ast) {
         Ok(plan) => plan,
-        Err(fault) => return no_job(alloc, input, fault.place(), fault_code(fault)),
+        Err(fault) => return no_job(alloc, job, fault.place(), fault_code(fault)),
     };
-    drilled(alloc, &plan, &options, schedule)
+    scripted(alloc, &plan, options, schedule, script)
 }
 
-// The answer to an input that is no job, for the fault at this place with the word of this code. The code 0 is
+// The answer to a text that is no job, for the fault at this place with the word of this code. The code 0 is
 // that of no word: memory ran out.
-fn no_job(alloc: Global, input: &[u8], at: u32, code: u8) -> Result<Answer, Memory>
-    requires { length input.now ≤ 262144 }
+fn no_job(alloc: Global, text: &[u8], at: u32, code: u8) -> Result<Answer, Memory>
+    requires { length text.now ≤ 262144 }
     ensures status { IfOk result (λ answer. answer.status ≡ Status.Job) }
-    ensures text { IfOk result (λ answer. answer.text ≡ job_line (wording input.now at code)) }
+    ensures text { IfOk result (λ answer. answer.text ≡ job_line (wording text.now at code)) }
     ensures real { IfOk result (λ answer. code ≡ 0 → ⊥) }
 {
     if code == 0 {
@@ -78,7 +103,7 @@ fn no_job(alloc: Global, input: &[u8], at: u32, code: u8) -> Result<Answer, Memo
     }
     Ok(Answer {
         status: Status::Job,
-        text: job_line(alloc, input, at, code)?,
+        text: job_line(alloc, text, at, code)?,
     })
 }
 

@@ -1,6 +1,7 @@
 //! The drill of a job: both replicas on their nodes, on one thread.
 
 ghost use Rattle.std.specs.Prelude.{◌≡◌, ◌≤◌, ◌<◌, codes, IfOk};
+ghost use Rattle.chare_base.specs.declared.options.Mode.TheVariants.{Strong};
 ghost use Rattle.chare_base.specs.Elements.{elements};
 ghost use Rattle.top_call.specs.Due.{DueRun, nodes_line};
 
@@ -12,42 +13,54 @@ use chare_base::memory::Memory;
 use chare_base::options::Options;
 use chare_base::plan::Plan;
 use fault_script::script::Script;
-use run_report::laws::reports_are_fault_free;
+use run_report::laws::{reports_are_fault_free, reports_are_right};
 use run_report::report::report;
 use std::alloc::Global;
 use world_core::drill::drill;
 use world_core::fault::DrillFault;
 
-/// Runs a job in both replicas on their nodes, its events picked by a schedule, and reports the records that the
-/// conductor made. They are lawful, and each checkpoint and answer in the report is that of the fault-free run on one
-/// thread. Where there are more nodes than elements nothing is run.
+/// Runs a job under a script in both replicas on their nodes, its events picked by a schedule, and reports the records that
+/// the conductor made. They are lawful. Each checkpoint and answer in the report is that of the fault-free run on one
+/// thread, where no flips of the two replicas make equal checkpoints that are wrong. Where there are more nodes than
+/// elements nothing is run.
 pub fn drilled(
     alloc: Global,
     plan: &Plan,
+    script: &Script,
     options: &Options,
     schedule: u64,
 ) -> Result<Answer, Memory>
-    requires { 1 ≤ options.now.nodes }
-    ensures { IfOk result (λ answer. DueRun options.now schedule plan.now answer.status answer.text) }
+    requires some { 1 ≤ options.now.nodes }
+    requires bounded { options.now.nodes ≤ 32 }
+    requires strong { options.now.mode ≡ Strong }
+    ensures { IfOk result (λ answer. DueRun options.now schedule plan.now script.now answer.status answer.text) }
 {
     if plan.elements() < u32::from(options.nodes) {
         return too_many_nodes(alloc, options.nodes, plan.elements());
     }
-    run(alloc, plan, options, schedule)
+    run(alloc, plan, script, options, schedule)
 }
 
 // The same, where each node can have an element.
-fn run(alloc: Global, plan: &Plan, options: &Options, schedule: u64) -> Result<Answer, Memory>
+fn run(
+    alloc: Global,
+    plan: &Plan,
+    script: &Script,
+    options: &Options,
+    schedule: u64,
+) -> Result<Answer, Memory>
     requires some { 1 ≤ options.now.nodes }
+    requires bounded { options.now.nodes ≤ 32 }
+    requires strong { options.now.mode ≡ Strong }
     requires few { options.now.nodes ≤ elements plan.now }
-    ensures { IfOk result (λ answer. DueRun options.now schedule plan.now answer.status answer.text) }
+    ensures { IfOk result (λ answer. DueRun options.now schedule plan.now script.now answer.status answer.text) }
 {
     reports_are_fault_free();
-    let script = Script::none(alloc);
-    match drill(alloc, plan, &script, options, schedule) {
+    reports_are_right();
+    match drill(alloc, plan, script, options, schedule) {
         Ok(ending) => Ok(Answer {
             status: Status::Done,
-            text: report(alloc, plan, &script, options, &ending)?,
+            text: report(alloc, plan, script, options, &ending)?,
         }),
         Err(DrillFault::Still) => still(alloc),
         Err(DrillFault::Memory) => Err(Memory),

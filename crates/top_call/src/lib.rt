@@ -10,5 +10,7 @@ pub mod drill;
 pub mod laws;
 pub mod process;
 mod refusal;
+mod script;
+mod split;
 pub mod status;
 pub mod top;

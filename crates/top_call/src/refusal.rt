@@ -3,11 +3,12 @@
 ghost use Rattle.std.specs.Prelude.{◌≡◌, ◌≤◌, ◌++◌, length, IfOk, OnOk};
 ghost use Rattle.std.specs.Fmt.{decimal};
 ghost use Rattle.chare_checker.specs.Wording.{wording};
-ghost use Rattle.top_call.specs.Due.{job_line, nodes_line};
+ghost use Rattle.top_call.specs.Due.{job_line, nodes_line, script_line};
 
 use chare_base::bytes::Bytes;
 use chare_base::memory::Memory;
 use chare_checker::wording::{word, word_at};
+use fault_script::reading::ScriptFault;
 use std::alloc::Global;
 
 /// `job LINE COLUMN WORD` for the fault at this byte of an input, with the word of this code. A place behind the
@@ -24,6 +25,18 @@ pub(crate) fn job_line(alloc: Global, input: &[u8], at: u32, code: u8) -> Result
     put_number(alloc, &mut line, wording.column)?;
     line.extend(b" ")?;
     line.extend(word(wording.code))?;
+    line.extend(b"\n")?;
+    Ok(line)
+}
+
+/// `script LINE WORD` for this fault of a script.
+pub(crate) fn script_line(alloc: Global, fault: ScriptFault) -> Result<Bytes, Memory>
+    ensures { IfOk result (λ line. line ≡ script_line fault) }
+{
+    let mut line = Bytes::from_slice(alloc, b"script ")?;
+    put_number(alloc, &mut line, fault.line())?;
+    line.extend(b" ")?;
+    line.extend(fault.word())?;
     line.extend(b"\n")?;
     Ok(line)
 }

@@ -13,8 +13,10 @@ pub enum Status {
     Done,
     /// The words are no command, text `usage`; or there are more nodes than elements, text `nodes`.
     Usage,
-    /// The input is no job; text `job`.
+    /// The job's text is no job; text `job`.
     Job,
+    /// The script's text is no script for the job and its nodes, text `script`; or it has a crash line, text `unbuilt`.
+    Script,
     /// The input has more than 262,144 bytes; text `long`.
     Long,
     /// The source failed; text `read`.
@@ -36,6 +38,7 @@ impl Status {
             Status::Done => 0,
             Status::Usage => 2,
             Status::Job => 3,
+            Status::Script => 4,
             Status::Long => 5,
             Status::Read => 6,
             Status::Write => 7,

@@ -1,15 +1,8 @@
 use Rattle.std.proofs.Common.{rules}
-use Rattle.top_call.proofs.Plans.{broken, due_job, due_run, is_plan}
+use Rattle.top_call.proofs.Plans.{due_drill}
 use Rattle.top_call.proofs.answer.answer_to_drill.Goals as goal
-
-pub returns-in-Err-check : goal.returns-in-Err-check
-returns-in-Err-check c =
-    due_job c.refused_has_none.ensures c.args.options c.args.schedule c.args.input.now c.place.result c.fault_code.result (search rules)
-    (broken c.args.input.now c.in-Ok.ast.text c.in-Ok.ast.job c.in-Err-check.fault c.place.result c.fault_code.result c.in-Ok.ensures.text c.in-Ok.ensures.found
-    c.in-Err-check.ensures c.place.ensures c.fault_code.ensures)
-    c.no_job-in-Err-check.result c.no_job-in-Err-check.ensures.status c.no_job-in-Err-check.ensures.text c.no_job-in-Err-check.ensures.real
 
 pub returns : goal.returns
 returns c =
-    due_run c.args.options c.args.schedule c.args.input.now c.in-Ok-check.plan (search rules)
-    (is_plan c.args.input.now c.in-Ok.ast.text c.in-Ok.ast.job c.in-Ok-check.plan c.in-Ok.ensures.text c.in-Ok.ensures.found c.in-Ok-check.ensures) c.drilled.result c.drilled.ensures
+    due_drill c.args.options c.args.schedule c.args.input.now c.split.result.0.now c.split.result.1.now (search rules) c.split.ensures.job c.split.ensures.script
+    c.answer_to_texts.result c.answer_to_texts.ensures
