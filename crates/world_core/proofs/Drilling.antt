@@ -1,8 +1,8 @@
 -- What a drill's calls ask follows from what holds of each world that it reaches.
-use Rattle.std.proofs.Common.{◌≡◌, ℕ, ◌≤◌, List, [], ◌∷◌, sym, arith}
+use Rattle.std.proofs.Common.{◌≡◌, ◌≤◌, List, [], ◌∷◌, sym, arith}
 use Rattle.std.specs.List.{AllByRecursion}
 use Rattle.chare_base.specs.declared.options.Options.{Options}
-use Rattle.world_core.specs.Sound.{IsFor, Served, Serves}
+use Rattle.world_core.specs.Sound.{IsFor, Serves}
 use Rattle.world_core.specs.Steps.{Fresh, Renews}
 use Rattle.world_core.specs.Worlds.{Setting, SlotState, WorldState}
 

@@ -1,10 +1,15 @@
 -- Slots that are renewed one after another.
 use Rattle.std.proofs.Common.{◌≡◌, ℕ, zero, suc, ◌<◌, ◌≤◌, ◌+◌, List, [], ◌∷◌, length, map, get_or, refl, ap, sym, ◌∙◌, subst, arith, Option, Some, None}
-use Rattle.std.specs.Prelude.{slice_get, slice_set}
+use Rattle.std.specs.Prelude.{slice_set}
 use Rattle.std.specs.List.{AllByRecursion}
+use Rattle.chare_base.specs.declared.plan.Plan.{Plan}
+use Rattle.iteration_agree.specs.Cuts.{CutState, agreed, agreed_on, agreement, opened, quieted}
+use Rattle.iteration_agree.specs.declared.round.Taking.{Taking}
+use Rattle.world_core.specs.Steps.{Renews}
+use Rattle.world_core.specs.Worlds.{SlotState}
 
 -- the first so many of a list are what a function makes of them
-pub renewed_to : {A : Type 0} → (A → A) → ℕ → List A → List A
+abbrev pub renewed_to : {A : Type 0} → (A → A) → ℕ → List A → List A
 renewed_to f zero xs = xs
 renewed_to f (suc i) [] = []
 renewed_to f (suc i) (x ∷ xs) = f x ∷ renewed_to f i xs
@@ -44,3 +49,35 @@ keeps_length f i xs now so_far = ap length so_far ∙ by i xs
     by zero xs = refl
     by (suc i) [] = refl
     by (suc i) (x ∷ xs) = ap suc (by i xs)
+
+-- ---- moves of the round leave each slot its place
+
+renew_in : (p : Plan) (c new : CutState) (slots : List SlotState) → new.nodes ≡ c.nodes → AllByRecursion (Renews p c) slots → AllByRecursion (Renews p new) slots
+renew_in p c new [] same all = tt
+renew_in p c new (x ∷ slots) same all =
+    (record { fits = all.0.fits; roster = all.0.roster; slot = (all.0.slot.0, subst (λ n. x.node.slot.node < n) (sym same) all.0.slot.1) }, renew_in p c new slots same all.1)
+
+nodes_opened : (floor : ℕ) (c : CutState) → (opened floor c).nodes ≡ c.nodes
+unfolding opened
+nodes_opened floor c = refl
+
+nodes_agreed : (taking : Taking) (c : CutState) → (agreed taking c).nodes ≡ c.nodes
+unfolding agreed
+nodes_agreed taking c = by (agreement taking c)
+  where
+    by : (k : Option ℕ) → (agreed_on taking c k).nodes ≡ c.nodes
+    by None = refl
+    by (Some k) = refl
+
+nodes_quieted : (c : CutState) → (quieted c).nodes ≡ c.nodes
+unfolding quieted
+nodes_quieted c = refl
+
+pub renew_opened : (p : Plan) (c new : CutState) (floor : ℕ) (slots : List SlotState) → new ≡ opened floor c → AllByRecursion (Renews p c) slots → AllByRecursion (Renews p new) slots
+renew_opened p c new floor slots is all = renew_in p c new slots (ap (λ (x : CutState). x.nodes) is ∙ nodes_opened floor c) all
+
+pub renew_agreed : (p : Plan) (c new : CutState) (taking : Taking) (slots : List SlotState) → new ≡ agreed taking c → AllByRecursion (Renews p c) slots → AllByRecursion (Renews p new) slots
+renew_agreed p c new taking slots is all = renew_in p c new slots (ap (λ (x : CutState). x.nodes) is ∙ nodes_agreed taking c) all
+
+pub renew_quieted : (p : Plan) (c new : CutState) (slots : List SlotState) → new ≡ quieted c → AllByRecursion (Renews p c) slots → AllByRecursion (Renews p new) slots
+renew_quieted p c new slots is all = renew_in p c new slots (ap (λ (x : CutState). x.nodes) is ∙ nodes_quieted c) all

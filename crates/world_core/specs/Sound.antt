@@ -1,15 +1,13 @@
 -- What holds of every world that is reached.
-use Rattle.std.specs.Prelude.{◌≡◌, ℕ, zero, suc, ◌≤◌, ◌⊎◌, Bool, true, false, ◌==◌, if◌then◌else◌, is_none, is_some, List, [], ◌∷◌, ◌++◌, length, map, Option, Some, None, IfSome, IsSome}
+use Rattle.std.specs.Prelude.{◌≡◌, ℕ, zero, suc, ◌≤◌, ◌⊎◌, false, ◌==◌, if◌then◌else◌, is_none, List, [], ◌∷◌, ◌++◌, length, map, Option, Some, None, IfSome}
 use Rattle.std.specs.List.{AllByRecursion}
 use Rattle.chare_base.specs.declared.options.Options.{Options}
 use Rattle.chare_base.specs.declared.slots.SlotId.{SlotId}
 use Rattle.chare_base.specs.Elements.{elements}
 use Rattle.chare_base.specs.Placing.{Covers}
-use Rattle.iteration_agree.specs.Cuts.{CutState, HasSlot, slot_of}
+use Rattle.iteration_agree.specs.Cuts.{CutState, slot_of}
 use Rattle.iteration_agree.specs.Slots.{reported}
 use Rattle.iteration_agree.specs.Under.{IsCut, SawAgreed}
-use Rattle.iteration_agree.specs.declared.round.Round.{Round}
-use Rattle.iteration_agree.specs.declared.round.Round.TheVariants.{Quiet, Gather, Agreed}
 use Rattle.iteration_agree.specs.declared.slot.Slot.{Slot}
 use Rattle.letter_post.specs.declared.letter.BoxId.{BoxId}
 use Rattle.letter_post.specs.declared.letter.BoxId.TheVariants as boxes

@@ -1,6 +1,5 @@
 -- Which events can happen.
 use Rattle.std.specs.Prelude.{◌≡◌, ℕ, ◌+◌, suc, slice_get, slice_set, ◌&&◌, not, Bool, true, false, if◌then◌else◌, is_some, is_none, List, [], ◌∷◌, Option, Some, None}
-use Rattle.std.specs.List.{AllByRecursion}
 use Rattle.chare_base.specs.declared.plan.ElementId.{ElementId}
 use Rattle.chare_base.specs.declared.plan.Plan.{Plan}
 use Rattle.fault_script.specs.declared.fault.Fault.{Fault}

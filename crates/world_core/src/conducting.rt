@@ -8,7 +8,7 @@ ghost use Rattle.conductor_core.specs.Conductors.{sight_of as last_sight};
 ghost use Rattle.fault_script.specs.declared.fault.Fault.{Fault};
 ghost use Rattle.iteration_agree.specs.Cuts.{CutState, HasSlot};
 ghost use Rattle.world_core.specs.Steps.{Renews, setting};
-ghost use Rattle.world_core.specs.Worlds.{conductor_made, conductor_moved, did_in, saw_in, told_by};
+ghost use Rattle.world_core.specs.Worlds.{conductor_made, conductor_moved, did_in, in_cut, saw_in, told_by};
 ghost use Rattle.world_core.specs.Worlds.{any_news, has_slot, is_gather, is_news, is_quiet, move_due, names_replica, news_below, same_cap, sight_in, takes_move};
 
 use crate::inbox::Inbox;
@@ -188,6 +188,7 @@ pub fn move_conductor<M: Placement>(
 }
 
 // It makes a move that the agreement takes.
+#[tactic(auto, using(crate::proofs::Renewing::renew_opened, crate::proofs::Renewing::renew_agreed, crate::proofs::Renewing::renew_quieted))]
 fn make_move<M: Placement>(
     alloc: Global,
     plan: &Plan,
@@ -204,27 +205,92 @@ fn make_move<M: Placement>(
     requires takes { takes_move cut.old wanted ≡ true }
     ensures { (script : List Fault) (over : Bool) → OnOk result (record { posts = record { slots = slots.new.items; desk = desk.new }; cut = cut.new; conductor = conductor.new; over = over } ≡ conductor_made (setting plan.now script (M.place map.now) (M.count map.now)) (record { posts = record { slots = slots.old.items; desk = desk.old }; cut = cut.old; conductor = conductor.old; over = over }) wanted) }
 {
-    let answer = match wanted {
-        CutMove::None => return Ok(()),
-        CutMove::Look { slot } => CutAnswer::Seen(cut.note(slot)),
+    match wanted {
+        CutMove::None => (),
+        CutMove::Look { slot } => see(alloc, plan, map, slot, cut, conductor, slots, desk)?,
         CutMove::OpenRound { floor } => {
             cut.open_round(floor);
-            renew_all(plan, cut, slots)?;
-            CutAnswer::Nothing
+            in_round(
+                alloc,
+                plan,
+                map,
+                CutAnswer::Nothing,
+                cut,
+                conductor,
+                slots,
+                desk,
+            )?;
         }
-        CutMove::Note { slot } => CutAnswer::Seen(cut.note(slot)),
+        CutMove::Note { slot } => see(alloc, plan, map, slot, cut, conductor, slots, desk)?,
         CutMove::Agree { taking } => {
-            let agreed = cut.agree(taking);
-            renew_all(plan, cut, slots)?;
-            CutAnswer::Agreed(agreed)
+            let answer = CutAnswer::Agreed(cut.agree(taking));
+            in_round(alloc, plan, map, answer, cut, conductor, slots, desk)?;
         }
         CutMove::Quiet => {
             cut.quiet();
-            renew_all(plan, cut, slots)?;
-            CutAnswer::Nothing
+            in_round(
+                alloc,
+                plan,
+                map,
+                CutAnswer::Nothing,
+                cut,
+                conductor,
+                slots,
+                desk,
+            )?;
         }
-    };
-    answered(alloc, plan, map, answer, conductor, slots, desk)
+    }
+    Ok(())
+}
+
+// It sees a slot, whose cap is noted where the round gathers.
+fn see<M: Placement>(
+    alloc: Global,
+    plan: &Plan,
+    map: &M,
+    slot: SlotId,
+    cut: &mut Cut,
+    conductor: &mut Conductor,
+    slots: &mut Vec<Slot>,
+    desk: &mut Inbox,
+) -> Result<(), Memory>
+    requires place { length (M.place map.now) ≡ elements plan.now }
+    requires nodes { IsOf (M.count map.now) conductor.old }
+    requires slot { HasSlot cut.old slot }
+    ensures { (script : List Fault) (over : Bool) → OnOk result (record { posts = record { slots = slots.new.items; desk = desk.new }; cut = cut.new; conductor = conductor.new; over = over } ≡ saw_in (setting plan.now script (M.place map.now) (M.count map.now)) slot (record { posts = record { slots = slots.old.items; desk = desk.old }; cut = cut.old; conductor = conductor.old; over = over })) }
+{
+    let sight = cut.note(slot);
+    answered(
+        alloc,
+        plan,
+        map,
+        CutAnswer::Seen(sight),
+        conductor,
+        slots,
+        desk,
+    )?;
+    Ok(())
+}
+
+// The round has moved: what each slot would do is worked out again, and the conductor hears the answer to its move.
+fn in_round<M: Placement>(
+    alloc: Global,
+    plan: &Plan,
+    map: &M,
+    answer: CutAnswer,
+    cut: &Cut,
+    conductor: &mut Conductor,
+    slots: &mut Vec<Slot>,
+    desk: &mut Inbox,
+) -> Result<(), Memory>
+    requires place { length (M.place map.now) ≡ elements plan.now }
+    requires nodes { IsOf (M.count map.now) conductor.old }
+    requires renews { AllByRecursion (Renews plan.now cut.now) slots.old.items }
+    ensures { (script : List Fault) (before : CutState) (over : Bool) → OnOk result (record { posts = record { slots = slots.new.items; desk = desk.new }; cut = cut.now; conductor = conductor.new; over = over } ≡ did_in (setting plan.now script (M.place map.now) (M.count map.now)) (conductor_did plan.now (M.place map.now) answer conductor.old) (in_cut plan.now cut.now (record { posts = record { slots = slots.old.items; desk = desk.old }; cut = before; conductor = conductor.old; over = over }))) }
+{
+    renew_all(plan, cut, slots)?;
+    answered(alloc, plan, map, answer, conductor, slots, desk)?;
+    Ok(())
 }
 
 // It hears what its move was answered, and its letters go to inboxes.

@@ -1,4 +1,4 @@
-use Rattle.std.proofs.Common.{◌≡◌, ◌∙◌}
+use Rattle.std.proofs.Common.{◌∙◌}
 use Rattle.chare_base.proofs.Blocks.{blocks_count}
 use Rattle.fault_script.specs.Lines.{faults_of}
 use Rattle.chare_base.specs.Placing.{block_nodes}

@@ -1,4 +1,4 @@
-use Rattle.std.proofs.Common.{◌≡◌, ◌∙◌, ◌-◌, ◌+◌, ◌*◌, ◌++◌, ◌∷◌, [], ℕ, true, false, refl, ap, sym, arith, List}
+use Rattle.std.proofs.Common.{◌∙◌, ◌-◌, ◌+◌, ◌*◌, ◌++◌, ℕ, true, false, ap, sym, arith}
 use Rattle.std.specs.Prelude.{is_some}
 use Rattle.world_core.specs.Worlds.{actor_at, enabled, ready_from}
 use Rattle.world_core.proofs.Picks.{ready_on}

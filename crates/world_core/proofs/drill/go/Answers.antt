@@ -1,9 +1,8 @@
-use Rattle.std.proofs.Common.{◌≡◌, ◌∙◌, ◌-◌, ◌++◌, ℕ, suc, ◌+◌, ap, sym, subst, List, Option, Some, None}
+use Rattle.std.proofs.Common.{◌≡◌, ◌∙◌, ◌-◌, ◌++◌, ap, sym, subst, Some, None}
 use Rattle.fault_script.specs.Lines.{faults_of}
-use Rattle.world_core.specs.declared.event.Actor.{Actor}
 use Rattle.world_core.specs.Sound.{Sound}
 use Rattle.world_core.specs.Steps.{setting}
-use Rattle.world_core.specs.Worlds.{Setting, WorldState, actor_at, chosen_of, enabled, event_at, goes_on, happens, picked, reached, ready_actors, ready_from}
+use Rattle.world_core.specs.Worlds.{Setting, WorldState, actor_at, chosen_of, enabled, event_at, goes_on, happens, picked, reached, ready_actors}
 use Rattle.world_core.proofs.Picks.{picked_nothing, picked_some}
 use Rattle.world_core.proofs.Drilling.{all_fresh, for_options}
 use Rattle.world_core.proofs.drill.go.Goals as goal

@@ -1,8 +1,5 @@
-use Rattle.std.proofs.Common.{◌≡◌, ◌∙◌, ◌++◌, ◌<◌, ap, sym, arith, List, []}
-use Rattle.iteration_agree.specs.Cuts.{CutState}
+use Rattle.std.proofs.Common.{◌<◌, arith}
 use Rattle.world_core.proofs.Opening.{opened_nodes}
-use Rattle.chare_base.specs.declared.slots.LineSet.{LineSet}
-use Rattle.fault_script.specs.declared.fault.Fault.{Fault}
 use Rattle.fault_script.specs.Lines.{faults_of}
 use Rattle.world_core.specs.Steps.{setting}
 use Rattle.world_core.specs.Worlds.{Setting}
