@@ -1,5 +1,6 @@
 #!/usr/bin/env bash
-# Drills a job. Where the text is not a valid job, shows the line, a caret under the column, and what is wrong there.
+# Drills a job. Where the text is not a valid job, shows the line, a caret under the column, and what is wrong there; where its
+# script is none, the line and what is wrong.
 # usage: scripts/where.sh FILE [PROGRAM]    (build the program first: `cd crates/acr && rt run </dev/null`)
 # Ends with the program's status, or with 2 where there is no such file or program.
 set -u
@@ -27,6 +28,10 @@ meaning() {
     overlap) echo "another part of the overlap uses this state too, and one of the two writes it" ;;
     bound) echo "this number is out of its range" ;;
     limit) echo "this name is too long, or with this there is more of something than a job may have" ;;
+    lines) echo "this is the 65th fault line; at most 64 may be there" ;;
+    form) echo "this is no fault line: flip R ELEMENT CELL xor M at K, or crash R J at K" ;;
+    no-such) echo "the job has no such array, state, coordinates or cell" ;;
+    range) echo "a number of this line is out of its range" ;;
     *) return 1 ;;
   esac
 }
@@ -34,8 +39,14 @@ meaning() {
 answer=$("$program" drill <"$file")
 status=$?
 [ -z "$answer" ] || printf '%s\n' "$answer"
-[[ $status -eq 3 && $answer =~ ^job\ ([1-9][0-9]*)\ ([1-9][0-9]*)\ ([a-z-]+)$ ]] || exit "$status"
-line=${BASH_REMATCH[1]} column=${BASH_REMATCH[2]} word=${BASH_REMATCH[3]}
+if [[ $status -eq 3 && $answer =~ ^job\ ([1-9][0-9]*)\ ([1-9][0-9]*)\ ([a-z-]+)$ ]]; then
+  line=${BASH_REMATCH[1]} column=${BASH_REMATCH[2]} word=${BASH_REMATCH[3]}
+elif [[ $status -eq 4 && $answer =~ ^script\ ([1-9][0-9]*)\ ([a-z-]+)$ ]]; then
+  # A script's lines count from the one behind the first line `faults`.
+  line=$((BASH_REMATCH[1] + $(grep -a -n -m 1 -x faults "$file" | cut -d : -f 1))) column=1 word=${BASH_REMATCH[2]}
+else
+  exit "$status"
+fi
 
 # Columns count bytes. So each byte is shown in one column: CR as a space, what can't be printed as `?`; tabs stay.
 plain() { tr '\r' ' ' | tr '\000-\010\013-\037\177-\377' '[?*]'; }
@@ -57,6 +68,6 @@ fi
 
 gap=${text:0:before}
 printf '%s | %s\n' "$line" "$text"
-printf '%*s | %s^%s\n' "${#line}" '' "${gap//[!$tab]/ }" "$end"
+[ "$status" -eq 4 ] || printf '%*s | %s^%s\n' "${#line}" '' "${gap//[!$tab]/ }" "$end"
 if said=$(meaning "$word"); then printf '%s: %s\n' "$word" "$said"; fi
 exit "$status"
