@@ -45,7 +45,7 @@ use std::alloc::Global;
 use std::fs;
 
 /// The files of cases, in the order in which they are run.
-const FILES: [&str; 10] = [
+const FILES: [&str; 12] = [
     "calls.rows",
     "jobs.rows",
     "grammar.rows",
@@ -56,6 +56,8 @@ const FILES: [&str; 10] = [
     "random_jobs.rows",
     "random_faults.rows",
     "random_nodes.rows",
+    "random_rounds.rows",
+    "random_flips.rows",
 ];
 
 fn main(rt: HostRuntime) -> Result<()> {
