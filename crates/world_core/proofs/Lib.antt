@@ -18,3 +18,4 @@ pub mod Acting
 pub mod Passing
 pub mod Beginning
 pub mod Serving
+pub mod Waiting

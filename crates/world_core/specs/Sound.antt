@@ -1,13 +1,15 @@
 -- What holds of every world that is reached.
-use Rattle.std.specs.Prelude.{◌≡◌, ℕ, zero, suc, ◌≤◌, ◌⊎◌, false, ◌==◌, if◌then◌else◌, is_none, List, [], ◌∷◌, ◌++◌, length, map, Option, Some, None, IfSome}
+use Rattle.std.specs.Prelude.{◌≡◌, ℕ, zero, suc, ◌≤◌, ◌⊎◌, true, false, ◌==◌, if◌then◌else◌, is_none, List, [], ◌∷◌, ◌++◌, length, map, Option, Some, None, IfSome}
 use Rattle.std.specs.List.{AllByRecursion}
 use Rattle.chare_base.specs.declared.options.Options.{Options}
 use Rattle.chare_base.specs.declared.slots.SlotId.{SlotId}
 use Rattle.chare_base.specs.Elements.{elements}
 use Rattle.chare_base.specs.Placing.{Covers}
 use Rattle.iteration_agree.specs.Cuts.{CutState, slot_of}
+use Rattle.iteration_agree.specs.Rounds.{takes_part}
 use Rattle.iteration_agree.specs.Slots.{reported}
 use Rattle.iteration_agree.specs.Under.{IsCut, SawAgreed}
+use Rattle.iteration_agree.specs.declared.round.Round.TheVariants.{Agreed}
 use Rattle.iteration_agree.specs.declared.slot.Slot.{Slot}
 use Rattle.letter_post.specs.declared.letter.BoxId.{BoxId}
 use Rattle.letter_post.specs.declared.letter.BoxId.TheVariants as boxes
@@ -141,3 +143,17 @@ EveryWorldIsSound = (s : Setting) (o : Options) (all : List Event) → IsPlaced 
 -- what the calls of a world ask
 abbrev pub SoundServes : Type 0
 SoundServes = (s : Setting) (o : Options) (w : WorldState) → IsFor s o → Sound s o w → Serves s w
+
+-- ---- no element begins the agreed iteration
+
+-- of a slot that takes part, and hasn't to go back
+pub record IsOn (cut : CutState) (x : SlotState) : Type 0 where
+  pub part : takes_part cut.taking x.node.slot.replica ≡ true
+  pub back : x.back ≡ None
+
+-- While iteration k is agreed none of its elements has begun it or a later one, so it has packed there before it begins any.
+abbrev pub NoneBegun : WorldState → Type 0
+NoneBegun w = (r k : ℕ) → w.cut.round ≡ Agreed r k → AllByRecursion (λ x. IsOn w.cut x → AllByRecursion (λ o. begun_of o ≤ k) (objects_of x.node.body)) w.posts.slots
+
+abbrev pub EveryWorldWaits : Type 0
+EveryWorldWaits = (s : Setting) (o : Options) (all : List Event) → IsPlaced s → IsFor s o → NoneBegun (reached s (opening_world s o) all)

@@ -1,9 +1,9 @@
 //! Laws of the world: each is called where it is wanted, and its clauses are facts from there on.
 
-ghost use Rattle.world_core.specs.Sound.{EveryEventKeeps, EveryWorldIsSound, SoundServes, StartIsSound};
+ghost use Rattle.world_core.specs.Sound.{EveryEventKeeps, EveryWorldIsSound, EveryWorldWaits, SoundServes, StartIsSound};
 
 use conductor_core::laws::conductors_tell;
-use iteration_agree::laws::{cuts_hold, moves_are_local};
+use iteration_agree::laws::{agreed_is_not_begun, cuts_hold, moves_are_local};
 use letter_post::laws::chains_grow;
 use node_core::laws::nodes_keep;
 
@@ -27,4 +27,14 @@ pub fn sound_worlds_serve()
     ensures { SoundServes }
 {
     nodes_keep();
+}
+
+/// In every world that events reach, while the agreement stands at an iteration no element of a slot that takes part has
+/// begun that iteration or a later one, unless the slot has just been ordered back to the base and is still to go there. So no
+/// element begins the agreed iteration before its slot has packed.
+pub fn agreed_waits()
+    ensures { EveryWorldWaits }
+{
+    worlds_are_sound();
+    agreed_is_not_begun();
 }
