@@ -2,6 +2,7 @@
 use Rattle.std.proofs.Common.{◌≡◌, ℕ, true, false, List, [], ◌∷◌, ap, sym, refl, ◌∙◌, subst, codes, length, ◌≤◌, Some, Result, Ok, Err, IfOk, inl, inr}
 use Rattle.chare_base.specs.declared.memory.Memory.{Memory}
 use Rattle.chare_base.specs.declared.plan.Plan.{Plan}
+use Rattle.chare_base.specs.Elements.{elements}
 use Rattle.job_rules.specs.declared.fault.CheckFault.{CheckFault}
 use Rattle.job_rules.specs.declared.fault.CheckFault.TheVariants as checks
 use Rattle.job_rules.specs.Accepted.{IsPlan, IsRefused, RefusedHasNone}
@@ -17,7 +18,7 @@ use Rattle.run_ledger.specs.declared.record.Record.{Record}
 use Rattle.run_ledger.specs.Lawful.{Lawful}
 use Rattle.chare_base.specs.declared.options.Mode.TheVariants.{Strong}
 use Rattle.chare_base.specs.declared.options.Options.{Options}
-use Rattle.world_core.specs.Drills.{drilled}
+use Rattle.world_core.specs.Drills.{DrillsWait, drilled}
 use Rattle.fault_script.specs.declared.fault.FaultLine.{FaultLine}
 use Rattle.fault_script.specs.declared.reading.ScriptFault.{ScriptFault}
 use Rattle.fault_script.specs.declared.reading.ScriptFault.TheVariants as script_faults
@@ -74,15 +75,17 @@ free fault_free p [] o records none lawful = fault_free p o records lawful
 free fault_free p (line ∷ more) o records none lawful = cc
 
 -- a report of a lawful ending
-pub is_report : ReportsAreFaultFree → StrongReportsAreRight → (p : Plan) (script : List FaultLine) (o : Options) (schedule : ℕ) (text : List ℕ) (records : List Record) → o.mode ≡ Strong →
+pub is_report : ReportsAreFaultFree → StrongReportsAreRight → DrillsWait → (p : Plan) (script : List FaultLine) (o : Options) (schedule : ℕ) (text : List ℕ) (records : List Record) → 1 ≤ o.nodes → o.nodes ≤ elements p →
+    o.nodes ≤ 32 → o.mode ≡ Strong →
     records ≡ (drilled p script o schedule).conductor.records → Lawful p (faults_of script) o records → text ≡ report p script o records → IsReport p script o schedule text
-is_report fault_free right p script o schedule text records strong reached lawful is = record {
+is_report fault_free right waits p script o schedule text records some few bounded strong reached lawful is = record {
   records = records;
   reached = reached;
   lawful = lawful;
   reports = is;
   right = λ apart. is ∙ right p script o records strong apart lawful;
   fault_free = λ none. is ∙ free fault_free p script o records none lawful;
+  waits = λ turns. waits p (faults_of script) o schedule turns some few bounded;
 }
 
 -- ---- scripts

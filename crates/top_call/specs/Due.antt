@@ -30,7 +30,8 @@ use Rattle.run_ledger.specs.declared.record.Record.{Record}
 use Rattle.run_ledger.specs.Apart.{Apart}
 use Rattle.run_ledger.specs.Lawful.{Lawful}
 use Rattle.run_report.specs.Report.{report, plain_report}
-use Rattle.world_core.specs.Drills.{drilled}
+use Rattle.world_core.specs.Drills.{drill_setting, drilled, scheduled}
+use Rattle.world_core.specs.Sound.{NoneBegun}
 use Rattle.top_call.specs.declared.status.Status.{Status}
 use Rattle.top_call.specs.declared.status.Status.TheVariants.{Done, Usage, Job, Script, Long, Read, Write, Memory, Still}
 use Rattle.top_call.specs.Split.{job_text, script_text}
@@ -52,7 +53,8 @@ asked words = command_in (map string_bytes words)
 
 -- The text reports the records of the world that the schedule reaches. They are lawful under the script. Every checkpoint that
 -- they accept and every answer in the text is that of the fault-free run, where no flips of the two replicas make equal checkpoints that
--- are wrong; so it is without a script.
+-- are wrong; so it is without a script. After any number of the schedule's turns, while an iteration is agreed no element of a slot that takes
+-- part has begun it, so that none does before its state is packed.
 pub record IsReport (p : Plan) (script : List FaultLine) (o : Options) (schedule : ℕ) (text : List ℕ) : Type 0 where
   pub records : List Record
   pub reached : records ≡ (drilled p script o schedule).conductor.records
@@ -60,6 +62,7 @@ pub record IsReport (p : Plan) (script : List FaultLine) (o : Options) (schedule
   pub reports : text ≡ report p script o records
   pub right : Apart p (faults_of script) → text ≡ plain_report p script o records
   pub fault_free : script ≡ [] → text ≡ plain_report p script o records
+  pub waits : (turns : ℕ) → NoneBegun (scheduled (drill_setting p (faults_of script) o) o turns schedule)
 
 -- why a text is no job: `job LINE COLUMN WORD`
 abbrev pub job_line : Wording → List ℕ

@@ -18,6 +18,7 @@ use run_report::report::report;
 use std::alloc::Global;
 use world_core::drill::drill;
 use world_core::fault::DrillFault;
+use world_core::laws::agreed_waits;
 
 /// Runs a job under a script in both replicas on their nodes, its events picked by a schedule, and reports the records that
 /// the conductor made. They are lawful. Each checkpoint and answer in the report is that of the fault-free run on one
@@ -55,6 +56,7 @@ fn run(
     requires few { options.now.nodes ≤ elements plan.now }
     ensures { IfOk result (λ answer. DueRun options.now schedule plan.now script.now answer.status answer.text) }
 {
+    agreed_waits();
     reports_are_fault_free();
     reports_are_right();
     match drill(alloc, plan, script, options, schedule) {

@@ -1,16 +1,19 @@
 -- No element begins the agreed iteration.
-use Rattle.std.proofs.Common.{◌≡◌, ℕ, ◌≤◌, List, [], ◌∷◌, arith, subst, Some, None}
+use Rattle.std.proofs.Common.{◌≡◌, ℕ, ◌≤◌, List, [], ◌∷◌, refl, arith, subst, Some, None}
 use Rattle.std.specs.Prelude.{slice_get}
 use Rattle.std.specs.List.{AllByRecursion}
 use Rattle.chare_base.specs.declared.options.Options.{Options}
+use Rattle.chare_base.specs.Elements.{elements}
+use Rattle.chare_base.proofs.Blocks.{blocks_count, blocks_cover}
 use Rattle.iteration_agree.specs.Cuts.{HasSlot, slot_of}
 use Rattle.iteration_agree.specs.Laws.{TopsStayBelow}
 use Rattle.iteration_agree.specs.declared.round.Round.TheVariants.{Agreed}
 use Rattle.node_core.specs.Nodes.{objects_of}
 use Rattle.node_core.proofs.Lists.{all_by}
 use Rattle.object_steps.specs.Objects.{Progress}
+use Rattle.world_core.specs.Drills.{DrillsWait, drill_setting}
 use Rattle.world_core.specs.Sound.{EveryWorldIsSound, EveryWorldWaits, IsBounded, IsOn, NoneBegun, SlotSound, Sound, begun_of}
-use Rattle.world_core.specs.Worlds.{Setting, SlotState, WorldState, opening_world, reached}
+use Rattle.world_core.specs.Worlds.{Setting, SlotState, WorldState, opening_chooser, opening_world, picked, reached}
 use Rattle.world_core.proofs.Lists.{all_got}
 use Rattle.world_core.proofs.Mailing.{IsNamed, place_is}
 
@@ -37,3 +40,9 @@ none_begun tops s o w sound = λ r k agreed. all_by (Waits r k) w.posts.slots (a
 
 pub every_world_waits : EveryWorldIsSound → TopsStayBelow → EveryWorldWaits
 every_world_waits all_sound tops s o all placed is = none_begun tops s o (reached s (opening_world s o) all) (all_sound s o all placed is)
+
+pub drills_wait : EveryWorldWaits → DrillsWait
+drills_wait waits p script o schedule turns some few bounded =
+    let s : Setting = drill_setting p script o in
+    waits s o (picked s turns (opening_chooser s.nodes schedule) (opening_world s o)) (record { count = blocks_count (elements p) o.nodes; covers = blocks_cover (elements p) o.nodes some few })
+    (record { nodes = refl; few = bounded })

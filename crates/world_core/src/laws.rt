@@ -1,5 +1,6 @@
 //! Laws of the world: each is called where it is wanted, and its clauses are facts from there on.
 
+ghost use Rattle.world_core.specs.Drills.{DrillsWait};
 ghost use Rattle.world_core.specs.Sound.{EveryEventKeeps, EveryWorldIsSound, EveryWorldWaits, SoundServes, StartIsSound};
 
 use conductor_core::laws::conductors_tell;
@@ -31,9 +32,10 @@ pub fn sound_worlds_serve()
 
 /// In every world that events reach, while the agreement stands at an iteration no element of a slot that takes part has
 /// begun that iteration or a later one, unless the slot has just been ordered back to the base and is still to go there. So no
-/// element begins the agreed iteration before its slot has packed.
+/// element begins the agreed iteration before its slot has packed. Each world of a drill is one of these.
 pub fn agreed_waits()
-    ensures { EveryWorldWaits }
+    ensures worlds { EveryWorldWaits }
+    ensures drills { DrillsWait }
 {
     worlds_are_sound();
     agreed_is_not_begun();
