@@ -3,3 +3,4 @@ pub mod Plans
 pub mod Tops
 pub mod Refusals
 pub mod Lines
+pub mod Splitting
