@@ -15,3 +15,6 @@ pub mod Acting
 pub mod Passing
 pub mod Beginning
 pub mod Serving
+pub mod Standing
+pub mod Idling
+pub mod Ending
