@@ -18,3 +18,4 @@ pub mod Serving
 pub mod Standing
 pub mod Idling
 pub mod Ending
+pub mod Seen

@@ -21,7 +21,7 @@ use Rattle.letter_post.specs.declared.stamp.Stamp.{Stamp}
 use Rattle.letter_post.specs.Orders.{is_mail}
 use Rattle.letter_post.specs.Stamps.{same_stamp}
 use Rattle.pup_state.specs.declared.piece.Piece.{Piece}
-use Rattle.run_ledger.specs.Conditions.{both_up, is_next}
+use Rattle.run_ledger.specs.Conditions.{both_up, due, is_next}
 use Rattle.node_core.specs.declared.piece.Held.{Held}
 use Rattle.node_core.specs.Mail.{Did, In, Owes, PartialWasSent, TotalWasSent}
 use Rattle.node_core.specs.Nodes.{Body}
@@ -51,16 +51,16 @@ present_in base (phases.Agreed k) = k
 abbrev pub present : ConductorState → ℕ
 present c = present_in c.ledger.base c.phase
 
--- the orders among letters, and the pieces among them
+-- the orders among letters, and the pieces among them with their stamps
 abbrev pub orders_in : List Letter → List Letter
 orders_in [] = []
 orders_in (letter ∷ more) = if is_mail letter then orders_in more else letter ∷ orders_in more
 
-abbrev pub pieces_of : Letter → List Piece → List Piece
+abbrev pub pieces_of : Letter → List Held → List Held
 pieces_of (letters.Parcel stamp entry k to payload) more = more
 pieces_of (letters.Partial stamp r k node value) more = more
 pieces_of (letters.Total stamp r k value) more = more
-pieces_of (letters.Piece stamp piece) more = piece ∷ more
+pieces_of (letters.Piece stamp piece) more = record { stamp = stamp; piece = piece } ∷ more
 pieces_of (letters.VerdictOf first second node k verdict piece) more = more
 pieces_of (letters.Lend k fresh) more = more
 pieces_of (letters.Take stamp k live piece) more = more
@@ -70,7 +70,7 @@ pieces_of (letters.Resume stamp) more = more
 pieces_of (letters.Died stamp slot line) more = more
 pieces_of letters.Stop more = more
 
-abbrev pub pieces_in : List Letter → List Piece
+abbrev pub pieces_in : List Letter → List Held
 pieces_in [] = []
 pieces_in (letter ∷ more) = pieces_of letter (pieces_in more)
 
@@ -207,7 +207,7 @@ pub record IsSent (k : ℕ) (other : SlotState) (x : SlotState) (b own : Body) :
   pub piece : Piece
   pub packed : own.fresh ≡ Some piece
   pub at : piece.iteration ≡ k
-  pub one : pieces_in x.box ≡ piece ∷ []
+  pub one : pieces_in x.box ≡ record { stamp = plain_stamp 1; piece = piece } ∷ []
   pub older : IfSome b.other (λ (held : Held). held.piece.iteration < k)
 
 pub record IsHeld (k : ℕ) (other : SlotState) (x : SlotState) (b own : Body) : Type 0 where
@@ -242,12 +242,12 @@ pub record Compared (s : Setting) (w : WorldState) (j k : ℕ) : Type 0 where
   pub other : first.body.other ≡ Some held
   pub at : held.piece.iteration ≡ k
 
--- A verdict behind the base is one of pieces that are there, and is under the stamps of the run.
+-- A verdict of a checkpoint behind the base is one of pieces that are there.
 abbrev pub Backed : Setting → WorldState → Letter → Type 0
 Backed s w (letters.Parcel stamp entry k to payload) = Unit {0}
 Backed s w (letters.Partial stamp r k node value) = Unit {0}
 Backed s w (letters.Total stamp r k value) = Unit {0}
-Backed s w (letters.Piece stamp piece) = (stamp ≡ plain_stamp 1) × (w.conductor.ledger.base < piece.iteration → HasPacked s w 1 piece.node piece.iteration)
+Backed s w (letters.Piece stamp piece) = Unit {0}
 Backed s w (letters.VerdictOf first second node k verdict piece) = w.conductor.ledger.base < k → Compared s w node k
 Backed s w (letters.Lend k fresh) = Unit {0}
 Backed s w (letters.Take stamp k live piece) = Unit {0}
@@ -259,27 +259,25 @@ Backed s w letters.Stop = Unit {0}
 
 -- ---- the conductor beside the agreement
 
--- it brought the round as far as it is
-abbrev pub IsPhase : ConductorState → Phase → Round → Type 0
-IsPhase c phases.Quiet (rounds.Quiet r) = Unit {0}
-IsPhase c phases.Quiet (rounds.Gather r floor) = ⊥
-IsPhase c phases.Quiet (rounds.Agreed r k) = ⊥
-IsPhase c phases.Gather (rounds.Quiet r) = ⊥
-IsPhase c phases.Gather (rounds.Gather r floor) = Unit {0}
-IsPhase c phases.Gather (rounds.Agreed r k) = ⊥
-IsPhase c (phases.Agreed j) (rounds.Quiet r) = ⊥
-IsPhase c (phases.Agreed j) (rounds.Gather r floor) = ⊥
--- the ledger takes what is agreed
-IsPhase c (phases.Agreed j) (rounds.Agreed r k) = (j ≡ k) × (is_next c.ledger k ≡ true)
+-- It brought the round as far as it is: it opened one at what is due, and the ledger takes what is agreed.
+abbrev pub IsPhase : ConductorState → ℕ → Phase → Round → Type 0
+IsPhase c floor phases.Quiet (rounds.Quiet r) = Unit {0}
+IsPhase c floor phases.Quiet (rounds.Gather r low) = ⊥
+IsPhase c floor phases.Quiet (rounds.Agreed r k) = ⊥
+IsPhase c floor phases.Gather (rounds.Quiet r) = ⊥
+IsPhase c floor phases.Gather (rounds.Gather r low) = floor ≡ due c.ledger
+IsPhase c floor phases.Gather (rounds.Agreed r k) = ⊥
+IsPhase c floor (phases.Agreed j) (rounds.Quiet r) = ⊥
+IsPhase c floor (phases.Agreed j) (rounds.Gather r low) = ⊥
+IsPhase c floor (phases.Agreed j) (rounds.Agreed r k) = (j ≡ k) × (is_next c.ledger k ≡ true)
 
 pub record Beside (s : Setting) (cut : CutState) (c : ConductorState) : Type 0 where
-  pub phase : IsPhase c c.phase cut.round
-  -- it opened the round at what is due
-  pub floor : cut.floor ≤ s.plan.iterations
+  pub phase : IsPhase c cut.floor c.phase cut.round
   pub both : cut.taking ≡ takings.Both
   -- each round accepted a checkpoint
   pub counted : number cut.round ≤ c.ledger.base
   pub going : c.ledger.base < s.plan.iterations
+  pub every : 1 ≤ c.ledger.options.every
   pub unended : c.ledger.ended ≡ false
   pub up : both_up c.ledger ≡ true
   pub first : c.first ≡ plain_stamp 0
