@@ -19,3 +19,4 @@ pub mod Standing
 pub mod Idling
 pub mod Ending
 pub mod Seen
+pub mod Resuming
