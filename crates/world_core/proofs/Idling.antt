@@ -20,9 +20,8 @@ use Rattle.world_core.specs.declared.doing.Doing.TheVariants as doings
 use Rattle.world_core.specs.declared.doing.SlotMove.{SlotMove}
 use Rattle.world_core.specs.declared.doing.SlotMove.TheVariants as slot_moves
 use Rattle.world_core.specs.declared.doing.Since.{Since}
-use Rattle.world_core.specs.declared.event.Event.{Event}
 use Rattle.world_core.specs.declared.event.Event.TheVariants as events
-use Rattle.world_core.specs.Moves.{begin_due, is_below, limit_of, move_by, move_of, move_on, pack_due, pack_or_begin, release_due, report_due, same_round}
+use Rattle.world_core.specs.Moves.{begin_due, is_below, limit_of, move_of, move_on, pack_due, pack_or_begin, release_due, report_due, same_round}
 use Rattle.world_core.specs.Sound.{begun_of}
 use Rattle.world_core.specs.Worlds.{doing_of, event_of, move_or_run, run_due, run_of}
 use Rattle.world_core.proofs.Due.{first, second}

@@ -20,3 +20,5 @@ pub mod Idling
 pub mod Ending
 pub mod Seen
 pub mod Resuming
+pub mod Posting
+pub mod Waking

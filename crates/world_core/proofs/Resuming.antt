@@ -1,8 +1,8 @@
 -- What a slot owes, and what is done at it, outlives the order to take its piece as the base, and Resume.
-use Rattle.std.proofs.Common.{◌≡◌, ℕ, ◌<◌, ◌≤◌, inl, inr, Bool, true, false, cond, List, [], ◌∷◌, refl, ap, sym, ◌∙◌, arith, subst, Option, Some, None, IsSome}
-use Rattle.std.specs.Prelude.{◌⊎◌, ◌==◌, ◌&&◌, nat_le, nat_lt}
+use Rattle.std.proofs.Common.{◌≡◌, ℕ, ◌<◌, ◌≤◌, inl, inr, Bool, true, false, cond, List, [], ◌∷◌, refl, ap, sym, ◌∙◌, arith, subst, Some, None, IsSome}
+use Rattle.std.specs.Prelude.{◌⊎◌, ◌==◌, ◌&&◌, nat_le}
 use Rattle.std.specs.List.{AllByRecursion, filter}
-use Rattle.std.proofs.lemmas.Bool.{eq-eqb, eqb-true, leb-true, ltb-true}
+use Rattle.std.proofs.lemmas.Bool.{eq-eqb, eqb-true, leb-true}
 use Rattle.std.proofs.lemmas.Bool.Decides.{nat_tests}
 use Rattle.chare_base.specs.declared.plan.Plan.{Plan}
 use Rattle.chare_base.specs.declared.plan.Reduction.{Reduction}
@@ -18,11 +18,10 @@ use Rattle.object_steps.specs.Objects.{Progress}
 use Rattle.pup_state.specs.declared.piece.Piece.{Piece}
 use Rattle.node_core.specs.Gatherings.{Gathering, gathering_of, is_of}
 use Rattle.node_core.specs.Keeps.{Alive, IsGathering}
-use Rattle.node_core.specs.Mail.{BodyDid, BodyOwes, Contributed, Contributes, Given, PartialWasSent, Past, ShareDid, TotalsWereSent, given_in, reduction_id}
-use Rattle.node_core.specs.Nodes.{Body, NodeState, Outcome, all_at_of, awakened, committed, committed_with, is_from, node_from, node_heard, obeyed_by, quietly, resumed, sent_again, with_base, with_obeyed}
+use Rattle.node_core.specs.Mail.{BodyDid, BodyOwes, Contributed, Given, PartialWasSent, ShareDid, TotalsWereSent, given_in, reduction_id}
+use Rattle.node_core.specs.Nodes.{Body, NodeState, all_at_of, awakened, committed, committed_with, is_from, node_from, node_heard, quietly, resumed, sent_again, with_base, with_obeyed}
 use Rattle.node_core.specs.Rosters.{rank_of, sharers_of}
 use Rattle.node_core.proofs.Moving.{numbered_to}
-use Rattle.std.proofs.lemmas.Option.{same_Some}
 use Rattle.world_core.proofs.Due.{first, second}
 
 -- ---- what is gathered from an iteration on
