@@ -22,3 +22,4 @@ pub mod Seen
 pub mod Resuming
 pub mod Posting
 pub mod Waking
+pub mod Starting
