@@ -23,3 +23,4 @@ pub mod Resuming
 pub mod Posting
 pub mod Waking
 pub mod Starting
+pub mod Floating

@@ -1,5 +1,5 @@
 -- At the start nothing is lost.
-use Rattle.std.proofs.Common.{◌≡◌, ℕ, zero, suc, ◌<◌, ◌≤◌, inl, inr, Bool, true, false, List, [], ◌∷◌, ◌++◌, refl, ap, sym, ◌∙◌, arith, subst, Option, Some, None, IsSome}
+use Rattle.std.proofs.Common.{◌≡◌, ℕ, zero, suc, ◌<◌, ◌≤◌, inl, inr, true, false, List, [], ◌∷◌, ◌++◌, refl, ap, sym, arith, subst, None, IsSome}
 use Rattle.std.specs.Prelude.{◌⊎◌, IfSome, replicate, slice_index_or}
 use Rattle.std.specs.List.{AllByRecursion}
 use Rattle.chare_base.specs.declared.options.Options.{Options}
@@ -10,21 +10,20 @@ use Rattle.chare_base.specs.Placing.{members}
 use Rattle.chare_base.proofs.Facts.{iterations_some}
 use Rattle.iteration_agree.specs.declared.slot.Cap.{Cap}
 use Rattle.iteration_agree.specs.declared.slot.Slot.{Slot}
-use Rattle.iteration_agree.specs.Cuts.{opening_cut, opening_slots, slot_at, slot_of, slot_place}
+use Rattle.iteration_agree.specs.Cuts.{opening_cut, opening_slots, slot_of, slot_place}
 use Rattle.iteration_agree.specs.Rounds.{number}
 use Rattle.iteration_agree.specs.Slots.{opening_slot}
 use Rattle.letter_post.specs.declared.stamp.Stamp.{Stamp}
-use Rattle.pup_state.specs.declared.compare.Verdict.{Verdict}
-use Rattle.node_core.specs.Mail.{AllNumbered, BodyOwes, Contributed, Owes, Paid}
+use Rattle.node_core.specs.Mail.{AllNumbered, Contributed, Owes, Paid}
 use Rattle.node_core.specs.Nodes.{Body, NodeState}
 use Rattle.node_core.specs.Starts.{opening_body, opening_stamp, start_state, starts}
 use Rattle.conductor_core.specs.declared.wants.Phase.TheVariants as phases
 use Rattle.conductor_core.specs.Conductors.{ConductorState, start_conductor}
-use Rattle.conductor_core.specs.Moves.{is_noted, slot_named}
+use Rattle.conductor_core.specs.Moves.{slot_named}
 use Rattle.conductor_core.specs.Openings.{all_lines}
 use Rattle.conductor_core.specs.Tells.{verdict_at}
-use Rattle.world_core.specs.Still.{Afloat, Beside, Compared, Free, IsFree, IsPlain, Pair, SlotAfloat, Stage, StartIsAfloat, pieces_in, plain_stamp, present}
-use Rattle.world_core.specs.Worlds.{Setting, SlotState, WorldState, opening_slot_at, opening_world}
+use Rattle.world_core.specs.Still.{Afloat, Beside, Free, IsPlain, SlotAfloat, StartIsAfloat, pieces_in, plain_stamp, present}
+use Rattle.world_core.specs.Worlds.{Setting, SlotState, opening_slot_at, opening_world}
 use Rattle.world_core.specs.Worlds as worlds
 use Rattle.world_core.proofs.Lists.{all_behind, all_got, all_joined}
 use Rattle.world_core.proofs.Mailing.{slot_is}
