@@ -24,3 +24,4 @@ pub mod Posting
 pub mod Waking
 pub mod Starting
 pub mod Floating
+pub mod Running
