@@ -25,3 +25,4 @@ pub mod Waking
 pub mod Starting
 pub mod Floating
 pub mod Running
+pub mod Accepting

@@ -56,10 +56,10 @@ gathered_of p P r k rank (g ∷ more) known each h = by (is_of (reduction_id r) 
 -- ---- an order to take the fresh piece as the base
 
 module _ (p : Plan) (script : List Fault) (place : List ℕ) (k : ℕ) (live : LineSet) (n : NodeState) (b : Body) (piece : Piece) where
-  abbrev base_body : Body
+  abbrev pub base_body : Body
   base_body = with_base k live b piece
 
-  abbrev based : NodeState
+  abbrev pub based : NodeState
   based = node_from n.slot (order_at n.last.stamp k) n.roster n.over (Some base_body)
 
   pub commit_is : n.last.stamp.replica ≡ n.slot.replica → n.body ≡ Some b → b.fresh ≡ Some piece → piece.iteration ≡ k → all_at_of k b.objects ≡ true →
@@ -120,7 +120,7 @@ module _ (p : Plan) (script : List Fault) (place : List ℕ) (k : ℕ) (live : L
 -- ---- Resume
 
 module _ (p : Plan) (script : List Fault) (place : List ℕ) (n : NodeState) (b : Body) where
-  abbrev goes_on : NodeState
+  abbrev pub goes_on : NodeState
   goes_on = node_from n.slot n.last n.roster n.over (Some (awakened b))
 
   pub resume_is : n.last.stamp.replica ≡ n.slot.replica → n.body ≡ Some b → b.fresh ≡ None → node_heard p script place (letters.Resume n.last.stamp) n ≡ record { node = goes_on; out = [] }

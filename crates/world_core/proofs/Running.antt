@@ -1,8 +1,7 @@
 -- Runs, mail that is no piece, and the orders of an accepted checkpoint lose nothing.
-use Rattle.std.proofs.Common.{◌≡◌, ℕ, ◌<◌, ◌≤◌, inl, inr, Bool, true, false, cond, List, [], ◌∷◌, ◌++◌, refl, ap, sym, ◌∙◌, arith, subst, Option, Some, None, IsSome}
+use Rattle.std.proofs.Common.{◌≡◌, ℕ, ◌≤◌, inl, inr, true, List, [], ◌∷◌, ◌++◌, refl, ap, sym, ◌∙◌, subst, Some, None}
 use Rattle.std.specs.Prelude.{◌⊎◌, IfSome}
 use Rattle.std.specs.List.{AllByRecursion}
-use Rattle.std.proofs.lemmas.Option.{same_Some}
 use Rattle.chare_base.specs.declared.options.Options.{Options}
 use Rattle.chare_base.specs.declared.plan.ElementId.{ElementId}
 use Rattle.chare_base.specs.declared.slots.SlotId.{SlotId}
@@ -15,16 +14,14 @@ use Rattle.letter_post.specs.declared.letter.Letter.TheVariants as letters
 use Rattle.letter_post.specs.declared.letter.Sent.{Sent}
 use Rattle.letter_post.specs.Orders.{is_mail}
 use Rattle.letter_post.specs.Truth.{Holds}
-use Rattle.pup_state.specs.declared.piece.Piece.{Piece}
 use Rattle.node_core.specs.declared.piece.Held.{Held}
 use Rattle.node_core.specs.Mail.{Did, HearsMove, HearsMoveOn, In, IsAt, Moves, Owes, RunsMove}
 use Rattle.node_core.specs.Nodes.{Body, NodeState, Outcome, node_heard, node_ran, outcome_of}
 use Rattle.conductor_core.specs.Conductors.{ConductorState}
-use Rattle.world_core.specs.declared.event.Event.TheVariants as events
 use Rattle.world_core.specs.Sound.{SlotSound, Sound}
-use Rattle.world_core.specs.Still.{Accepted, Afloat, Committed, Earlier, Free, Freed, Packed, SlotAfloat, Stage, orders_in, pieces_in, plain_stamp, present}
-use Rattle.world_core.specs.Worlds.{Acted, Setting, SlotState, WorldState, acted, after_slot, number_of, renewed, slot_at, slot_ran, slot_ran_by, stand}
-use Rattle.world_core.proofs.Floating.{PlainStep, SamePlace, plain_afloat}
+use Rattle.world_core.specs.Still.{Accepted, Afloat, Committed, Free, Freed, Packed, SlotAfloat, Stage, orders_in, pieces_in, plain_stamp, present}
+use Rattle.world_core.specs.Worlds.{Setting, SlotState, WorldState, acted, after_slot, number_of, renewed, slot_at, slot_ran, slot_ran_by, stand}
+use Rattle.world_core.proofs.Floating.{PlainStep, plain_afloat}
 use Rattle.world_core.proofs.Lists.{all_got}
 use Rattle.world_core.proofs.Mailing.{slot_is}
 use Rattle.world_core.proofs.Waking.{IsNoPiece, Leaves, heard_leaves, ran_leaves}
