@@ -26,3 +26,4 @@ pub mod Starting
 pub mod Floating
 pub mod Running
 pub mod Accepting
+pub mod Placing
