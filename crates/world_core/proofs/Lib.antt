@@ -27,3 +27,4 @@ pub mod Floating
 pub mod Running
 pub mod Accepting
 pub mod Placing
+pub mod Entering
