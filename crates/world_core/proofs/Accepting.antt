@@ -90,7 +90,7 @@ module _ (s : Setting) (o : Options) (plain : IsPlain s o) (w : WorldState) (slo
   abbrev base : ℕ
   base = w.conductor.ledger.base
 
-  pub old : SlotAfloat s w.cut w.conductor log x
+  abbrev pub old : SlotAfloat s w.cut w.conductor log x
   old = all_got (SlotAfloat s w.cut w.conductor log) w.posts.slots (number_of s.nodes slot) x afloat.slots (slot_is s.nodes w.posts.slots slot x is).there
 
   its : SlotSound s w.cut w.conductor x

@@ -28,3 +28,4 @@ pub mod Running
 pub mod Accepting
 pub mod Placing
 pub mod Entering
+pub mod Hearing

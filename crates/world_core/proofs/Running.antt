@@ -66,7 +66,7 @@ stays_kept : (s : Setting) (K : ℕ) (log : List Sent) (n : NodeState) (box : Li
 stays_kept s K log n box o moves owes letter (inl h) = inl h
 stays_kept s K log n box o moves owes letter (inr h) = inr (moves.did log letter owes h)
 
-heard_kept : (s : Setting) (K : ℕ) (log : List Sent) (n : NodeState) (first : Letter) (more : List Letter) (o : Outcome) → Moves s.plan s.place K n o → Owes s.plan s.place K log n → Did s.plan (log ++ o.out) first o.node → (letter : Letter) →
+pub heard_kept : (s : Setting) (K : ℕ) (log : List Sent) (n : NodeState) (first : Letter) (more : List Letter) (o : Outcome) → Moves s.plan s.place K n o → Owes s.plan s.place K log n → Did s.plan (log ++ o.out) first o.node → (letter : Letter) →
     In letter (first ∷ more) ⊎ Did s.plan log letter n → In letter more ⊎ Did s.plan (log ++ o.out) letter o.node
 heard_kept s K log n first more o moves owes did letter (inr h) = inr (moves.did log letter owes h)
 heard_kept s K log n first more o moves owes did letter (inl (inl q)) = inr (subst (λ l. Did s.plan (log ++ o.out) l o.node) (sym q) did)
@@ -76,14 +76,14 @@ module _ (s : Setting) (o : Options) (w : WorldState) (slot : SlotId) (x : SlotS
   abbrev log : List Sent
   log = afloat.log
 
-  old : SlotAfloat s w.cut w.conductor log x
+  abbrev pub old : SlotAfloat s w.cut w.conductor log x
   old = all_got (SlotAfloat s w.cut w.conductor log) w.posts.slots (number_of s.nodes slot) x afloat.slots (slot_is s.nodes w.posts.slots slot x is).there
 
   its : SlotSound s w.cut w.conductor x
   its = all_got (SlotSound s w.cut w.conductor) w.posts.slots (number_of s.nodes slot) x sound.slots (slot_is s.nodes w.posts.slots slot x is).there
 
   -- an event of the node alone, which leaves its pieces
-  acted_step : (out : Outcome) (box : List Letter) → Moves s.plan s.place (present w.conductor) x.node out → Leaves old.body out → pieces_in box ≡ pieces_in x.box → orders_in box ≡ orders_in x.box →
+  pub acted_step : (out : Outcome) (box : List Letter) → Moves s.plan s.place (present w.conductor) x.node out → Leaves old.body out → pieces_in box ≡ pieces_in x.box → orders_in box ≡ orders_in x.box →
       ((letter : Letter) → In letter x.box ⊎ Did s.plan log letter x.node → In letter box ⊎ Did s.plan (log ++ out.out) letter out.node) → PlainStep s w log slot x (acted s.plan w.cut out box x.back x.since)
   acted_step out box moves leaves pieces orders kept = record {
     name = moves.slot ∙ (slot_is s.nodes w.posts.slots slot x is).name;

@@ -1,7 +1,7 @@
 //! Laws of the world: each is called where it is wanted, and its clauses are facts from there on.
 
 ghost use Rattle.world_core.specs.Sound.{EveryEventKeeps, EveryWorldIsSound, SoundServes, StartIsSound};
-ghost use Rattle.world_core.specs.Still.{NoStandstill};
+ghost use Rattle.world_core.specs.Still.{NoStandstill, StartIsAfloat};
 
 use chare_base::laws::waits;
 use conductor_core::laws::{conductors_tell, moves_fit_the_round};
@@ -31,6 +31,11 @@ pub fn sound_worlds_serve()
 {
     nodes_keep();
 }
+
+/// Where no fault is to come nothing is lost at the start.
+pub fn worlds_start_afloat()
+    ensures { StartIsAfloat }
+{}
 
 /// Without faults a world in which nothing is lost stands still only once its run has ended. While a round is quiet all
 /// elements have come to the job's end, and the conductor opens a round. While it gathers caps every slot has reported one.
