@@ -29,3 +29,4 @@ pub mod Accepting
 pub mod Placing
 pub mod Entering
 pub mod Hearing
+pub mod Telling
