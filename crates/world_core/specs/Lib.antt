@@ -4,3 +4,4 @@ pub mod Steps
 pub mod Sound
 pub mod Bounds
 pub mod Drills
+pub mod Still
