@@ -1,5 +1,5 @@
 -- An event of a slot that leaves its pieces, or spends one that is the base, loses nothing that was sent.
-use Rattle.std.proofs.Common.{◌≡◌, ℕ, ◌+◌, ◌*◌, ◌<◌, ◌≤◌, inl, inr, Bool, true, false, cond, List, [], ◌∷◌, ◌++◌, refl, ap, sym, ◌∙◌, arith, subst, Some, IsSome}
+use Rattle.std.proofs.Common.{◌≡◌, ℕ, ◌+◌, ◌*◌, ◌<◌, ◌≤◌, inl, inr, Bool, true, false, cond, List, [], ◌∷◌, ◌++◌, refl, ap, sym, ◌∙◌, arith, subst, Option, Some, None, IsSome}
 use Rattle.std.specs.Prelude.{◌⊎◌, ◌==◌, ◌&&◌, IfSome, nat_le, nat_lt, slice_get}
 use Rattle.std.specs.List.{AllByRecursion}
 use Rattle.std.proofs.lemmas.Bool.{ltb-true}
@@ -41,31 +41,9 @@ use Rattle.world_core.proofs.Mailing.{IsNamed, found, own_name, place_is, same_s
 use Rattle.world_core.proofs.Posting.{From, Put, desk_of, to_desk, posted_at, posted_desk, slot_after, slot_changed}
 use Rattle.world_core.proofs.Seen.{name_at, some_of}
 use Rattle.world_core.proofs.Waking.{IsPlainMail, SentPlain}
+use Rattle.world_core.proofs.Carrying.{After, SamePlace, Step, put_pieces, slot_next as next_slot, step_afloat}
 
--- ---- letters at the back of an inbox
-
-orders_both : (xs ys : List Letter) → orders_in (xs ++ ys) ≡ orders_in xs ++ orders_in ys
-orders_both [] ys = refl
-orders_both (x ∷ xs) ys = by (is_mail x) (orders_both xs ys)
-  where
-    by : (b : Bool) → orders_in (xs ++ ys) ≡ orders_in xs ++ orders_in ys → cond b (orders_in (xs ++ ys)) (x ∷ orders_in (xs ++ ys)) ≡ cond b (orders_in xs) (x ∷ orders_in xs) ++ orders_in ys
-    by true h = h
-    by false h = ap (λ l. x ∷ l) h
-
-pieces_both : (xs ys : List Letter) → pieces_in (xs ++ ys) ≡ pieces_in xs ++ pieces_in ys
-pieces_both [] ys = refl
-pieces_both (letters.Parcel stamp entry k to payload ∷ xs) ys = pieces_both xs ys
-pieces_both (letters.Partial stamp r k node value ∷ xs) ys = pieces_both xs ys
-pieces_both (letters.Total stamp r k value ∷ xs) ys = pieces_both xs ys
-pieces_both (letters.Piece stamp piece ∷ xs) ys = ap (λ l. record { stamp = stamp; piece = piece } ∷ l) (pieces_both xs ys)
-pieces_both (letters.VerdictOf first second node k verdict piece ∷ xs) ys = pieces_both xs ys
-pieces_both (letters.Lend k fresh ∷ xs) ys = pieces_both xs ys
-pieces_both (letters.Take stamp k live piece ∷ xs) ys = pieces_both xs ys
-pieces_both (letters.Restore stamp k live ∷ xs) ys = pieces_both xs ys
-pieces_both (letters.Commit stamp k live ∷ xs) ys = pieces_both xs ys
-pieces_both (letters.Resume stamp ∷ xs) ys = pieces_both xs ys
-pieces_both (letters.Died stamp slot line ∷ xs) ys = pieces_both xs ys
-pieces_both (letters.Stop ∷ xs) ys = pieces_both xs ys
+-- ---- plain letters
 
 -- no order and no piece is among plain letters
 pub record NoneIn (all : List Letter) : Type 0 where
@@ -94,87 +72,6 @@ plain_none slot (sent ∷ more) h = by (is_to slot sent.to) (plain_none slot mor
     by true rest = one_more sent.letter (mail_to slot more) h.0 rest
     by false rest = rest
 
-append_nil : {A : Type 0} (xs : List A) → xs ++ [] ≡ xs
-append_nil [] = refl
-append_nil (x ∷ xs) = ap (λ l. x ∷ l) (append_nil xs)
-
-put_pieces : (x y : SlotState) (more : List Letter) → Put x more y → NoneIn more → pieces_in y.box ≡ pieces_in x.box
-put_pieces x y more put none = ap pieces_in put.box ∙ pieces_both x.box more ∙ ap (λ l. pieces_in x.box ++ l) none.pieces ∙ append_nil (pieces_in x.box)
-
-put_orders : (x y : SlotState) (more : List Letter) → Put x more y → NoneIn more → orders_in y.box ≡ orders_in x.box
-put_orders x y more put none = ap orders_in put.box ∙ orders_both x.box more ∙ ap (λ l. orders_in x.box ++ l) none.orders ∙ append_nil (orders_in x.box)
-
--- ---- a slot in another agreement of the same round, with more letters
-
-module _ (s : Setting) (c : ConductorState) where
-  -- its place is the same
-  pub record SamePlace (cut new : CutState) (name : SlotId) : Type 0 where
-    pub round : new.round ≡ cut.round
-    pub slot : slot_of new name ≡ slot_of cut name
-
-  stage_same : (cut new : CutState) (name : SlotId) (x y : SlotState) (b : Body) → SamePlace cut new name → y.node ≡ x.node → y.since ≡ x.since → orders_in y.box ≡ orders_in x.box →
-      Stage cut c (slot_of cut name) x b → Stage new c (slot_of new name) y b
-  stage_same cut new name x y b same node since orders stage = subst (λ t. Stage new c t y b) (sym same.slot) (by stage)
-    where
-      t : Slot
-      t = slot_of cut name
-
-      earlier : Earlier cut.round t → Earlier new.round t
-      earlier = subst (λ r. Earlier r t) (sym same.round)
-
-      by : Stage cut c t x b → Stage new c t y b
-      by (Free is) = Free (record { free = is.free; fresh = is.fresh; goes = is.goes; orders = orders ∙ is.orders; base = ap (λ n. n.last.base) node ∙ is.base; packed = subst (λ (r : Round). IfSome t.packed (λ n. n < number r)) (sym same.round) is.packed })
-      by (Packed is) = Packed
-          (record {
-            held = is.held;
-            piece = is.piece;
-            fresh = is.fresh;
-            agreed = is.agreed;
-            goes = is.goes;
-            since = since ∙ is.since;
-            orders = orders ∙ is.orders;
-            base = ap (λ n. n.last.base) node ∙ is.base;
-            packed = is.packed ∙ ap (λ (r : Round). Some (number r)) (sym same.round);
-          })
-      by (Accepted is) = Accepted
-          (record {
-            held = is.held;
-            piece = is.piece;
-            fresh = is.fresh;
-            at = is.at;
-            goes = is.goes;
-            since = since ∙ is.since;
-            live = is.live;
-            orders = subst (λ n. orders_in y.box ≡ letters.Commit (plain_stamp n.slot.replica) c.ledger.base is.live ∷ letters.Resume (plain_stamp n.slot.replica) ∷ []) (sym node) (orders ∙ is.orders);
-            earlier = earlier is.earlier;
-          })
-      by (Committed is) = Committed
-          (record {
-            held = is.held;
-            fresh = is.fresh;
-            waits = is.waits;
-            since = since ∙ is.since;
-            orders = subst (λ n. orders_in y.box ≡ letters.Resume (plain_stamp n.slot.replica) ∷ []) (sym node) (orders ∙ is.orders);
-            base = ap (λ n. n.last.base) node ∙ is.base;
-            earlier = earlier is.earlier;
-          })
-      by (Freed is) = Freed
-          (record { held = is.held; fresh = is.fresh; goes = is.goes; since = since ∙ is.since; orders = orders ∙ is.orders; base = ap (λ n. n.last.base) node ∙ is.base; earlier = earlier is.earlier })
-
-  pub put_afloat : (cut new : CutState) (log out : List Sent) (more : List Letter) (x y : SlotState) → SamePlace cut new x.node.slot → Put x more y → NoneIn more → SlotAfloat s cut c log x → SlotAfloat s new c (log ++ out) y
-  put_afloat cut new log out more x y same put none old = record {
-    body = old.body;
-    alive = ap (λ n. n.body) put.node ∙ old.alive;
-    stamp = subst (λ n. n.last.stamp ≡ plain_stamp n.slot.replica) (sym put.node) old.stamp;
-    owes = owes_more s.plan s.place (present c) log out y.node (subst (Owes s.plan s.place (present c) log) (sym put.node) old.owes);
-    back = put.back ∙ old.back;
-    stage = subst (λ n. Stage new c (slot_of new n.slot) y old.body) (sym put.node) (stage_same cut new x.node.slot x y old.body same put.node put.since (put_orders x y more put none) old.stage);
-    top = subst (λ n. (slot_of new n.slot).top ≤ s.plan.iterations) (sym put.node) (subst (λ (t : Slot). t.top ≤ s.plan.iterations) (sym same.slot) old.top);
-    cap = subst (λ n. IfSome (slot_of new n.slot).cap (λ (q : Cap). q.cap ≤ s.plan.iterations)) (sym put.node) (subst (λ (t : Slot). IfSome t.cap (λ (q : Cap). q.cap ≤ s.plan.iterations)) (sym same.slot) old.cap);
-    others = λ one. put_pieces x y more put none ∙ old.others (subst (λ n. n.slot.replica ≡ 1) put.node one);
-    buddy = old.buddy;
-  }
-
 -- ---- an event that leaves the pieces
 
 -- what the event makes of the slot, beside the conductor
@@ -194,16 +91,6 @@ pub record PlainStep (s : Setting) (w : WorldState) (log : List Sent) (slot : Sl
   pub others : (name : SlotId) → (name ≡ slot → ⊥) → (name.replica ≤ 1) × (name.node < s.nodes) → SamePlace s w.conductor w.cut a.cut name
   pub beside : Beside s a.cut w.conductor
 
--- ---- what arrived stays so
-
-kept_put : (s : Setting) (log : List Sent) (x y : SlotState) (more : List Letter) (letter : Letter) → Put x more y → In letter x.box ⊎ Did s.plan log letter x.node → In letter y.box ⊎ Did s.plan log letter y.node
-kept_put s log x y more letter put (inl h) = inl (subst (In letter) (sym put.box) (in_left letter x.box more h))
-kept_put s log x y more letter put (inr h) = inr (subst (Did s.plan log letter) (sym put.node) h)
-
-kept_more : (s : Setting) (log out : List Sent) (x : SlotState) (letter : Letter) → In letter x.box ⊎ Did s.plan log letter x.node → In letter x.box ⊎ Did s.plan (log ++ out) letter x.node
-kept_more s log out x letter (inl h) = inl h
-kept_more s log out x letter (inr h) = inr (did_more s.plan log out x.node letter h)
-
 plain_backed : (s : Setting) (w : WorldState) (letter : Letter) → IsPlainMail letter → Backed s w letter
 plain_backed s w (letters.Parcel stamp entry k to payload) plain = tt
 plain_backed s w (letters.Partial stamp r k node value) plain = tt
@@ -218,197 +105,19 @@ plain_backed s w (letters.Resume stamp) plain = absurd plain
 plain_backed s w (letters.Died stamp slot line) plain = absurd plain
 plain_backed s w letters.Stop plain = absurd plain
 
-desk_backed : (s : Setting) (w : WorldState) (out : List Sent) → AllByRecursion SentPlain out → AllByRecursion (Backed s w) (desk_of out)
-desk_backed s w [] h = tt
-desk_backed s w (sent ∷ more) h = by sent.to (desk_backed s w more h.1)
-  where
-    by : (to : BoxId) → AllByRecursion (Backed s w) (desk_of more) → AllByRecursion (Backed s w) (to_desk to sent.letter (desk_of more))
-    by (boxes.Slot slot) rest = rest
-    by boxes.Conductor rest = (plain_backed s w sent.letter h.0, rest)
-
-backed_to : (s : Setting) (w next : WorldState) → ((j k : ℕ) → w.conductor.ledger.base < k → Compared s w j k → Compared s next j k) → next.conductor ≡ w.conductor → (letter : Letter) → Backed s w letter → Backed s next letter
-backed_to s w next to same (letters.Parcel stamp entry k e payload) h = tt
-backed_to s w next to same (letters.Partial stamp r k node value) h = tt
-backed_to s w next to same (letters.Total stamp r k value) h = tt
-backed_to s w next to same (letters.Piece stamp piece) h = tt
-backed_to s w next to same (letters.VerdictOf first second node k verdict piece) h = λ late. let old : w.conductor.ledger.base < k = subst (λ (c : ConductorState). c.ledger.base < k) same late in to node k old (h old)
-backed_to s w next to same (letters.Lend k fresh) h = tt
-backed_to s w next to same (letters.Take stamp k live piece) h = tt
-backed_to s w next to same (letters.Restore stamp k live) h = tt
-backed_to s w next to same (letters.Commit stamp k live) h = tt
-backed_to s w next to same (letters.Resume stamp) h = tt
-backed_to s w next to same (letters.Died stamp slot line) h = tt
-backed_to s w next to same letters.Stop h = tt
-
 module _ (s : Setting) (o : Options) (w : WorldState) (slot : SlotId) (x : SlotState) (a : Acted) (is : slot_at s.nodes w.posts.slots slot ≡ Some x) (sound : Sound s o w) (afloat : Afloat s w)
     (step : PlainStep s w afloat.log slot x a) (sound_next : Sound s o (after_slot s slot a w)) where
-  abbrev log : List Sent
-  log = afloat.log
-
-  abbrev now : List Sent
-  now = afloat.log ++ a.out
-
   abbrev next : WorldState
   next = after_slot s slot a w
-
-  abbrev changed : Posts
-  changed = record { slots = with_slot s.nodes w.posts.slots slot a.slot; desk = w.posts.desk }
 
   none_to : (name : SlotId) → NoneIn (mail_to name a.out)
   none_to name = plain_none name a.out step.sends
 
-  -- a slot after the event: the one that made it, or another that was there
-  abbrev After : SlotId → SlotState → Type 0
-  After name y = ((name ≡ slot) × Put a.slot (mail_to name a.out) y) ⊎ ((name ≡ slot → ⊥) × From s.nodes w.posts.slots name (mail_to name a.out) y)
-
-  slot_next : (name : SlotId) (y : SlotState) → slot_at s.nodes next.posts.slots name ≡ Some y → After name y
-  slot_next name y h = by (is_to name (boxes.Slot slot)) refl
-    where
-      f : From s.nodes changed.slots name (mail_to name a.out) y
-      f = posted_at s.nodes name a.out changed y h
-
-      self : slot ≡ name → is_to name (boxes.Slot slot) ≡ true
-      self q = ap (λ (n : SlotId). n.replica == name.replica && n.node == name.node) q ∙ own_name name
-
-      by : (b : Bool) → is_to name (boxes.Slot slot) ≡ b → After name y
-      by true t =
-          let q : slot ≡ name = same_slot slot name t in
-          let mine : f.x ≡ a.slot = slot_changed s.nodes w.posts.slots slot a.slot f.x (ap (slot_at s.nodes changed.slots) q ∙ f.there) in
-          inl (sym q, subst (λ z. Put z (mail_to name a.out) y) mine f.put)
-      by false t = which (slot_after s.nodes w.posts.slots slot name a.slot f.x step.name f.there)
-        where
-          apart : name ≡ slot → ⊥
-          apart q = let z : true ≡ false = sym (self (sym q)) ∙ t in cc
-
-          which : ((name ≡ slot) × (f.x ≡ a.slot)) ⊎ (slot_at s.nodes w.posts.slots name ≡ Some f.x) → After name y
-          which (inl q) = absurd (apart q.0)
-          which (inr q) = inr (apart, record { x = f.x; there = q; put = f.put })
+  comes : (name : SlotId) (y : SlotState) → slot_at s.nodes next.posts.slots name ≡ Some y → After s w slot a step.name name y
+  comes = next_slot s w slot a step.name
 
   here_next : (name : SlotId) → name ≡ slot → slot_at s.nodes w.posts.slots name ≡ Some x
   here_next name q = ap (slot_at s.nodes w.posts.slots) q ∙ is
-
-  -- ---- slots
-
-  old_at : (name : SlotId) (z : SlotState) → slot_at s.nodes w.posts.slots name ≡ Some z → SlotAfloat s w.cut w.conductor log z
-  old_at name z there = all_got (SlotAfloat s w.cut w.conductor log) w.posts.slots (number_of s.nodes name) z afloat.slots (slot_is s.nodes w.posts.slots name z there).there
-
-  slots_next : AllByRecursion (SlotAfloat s a.cut w.conductor now) next.posts.slots
-  slots_next = all_by (SlotAfloat s a.cut w.conductor now) next.posts.slots each
-    where
-      each : (m : ℕ) (y : SlotState) → slice_get next.posts.slots m ≡ Some y → SlotAfloat s a.cut w.conductor now y
-      each m y there = by (slot_next y.node.slot y (found s.nodes next.posts.slots y.node.slot y (ap (slice_get next.posts.slots) named.number ∙ there) refl))
-        where
-          named : IsNamed s.nodes m y.node.slot
-          named = place_is s.nodes next.posts.slots sound_next.names m y there
-
-          by : After y.node.slot y → SlotAfloat s a.cut w.conductor now y
-          by (inl q) =
-              subst (λ l. SlotAfloat s a.cut w.conductor l y) (append_nil now)
-              (put_afloat s w.conductor a.cut a.cut now [] (mail_to y.node.slot a.out) a.slot y (record { round = refl; slot = refl }) q.1 (none_to y.node.slot) step.afloat)
-          by (inr q) =
-              put_afloat s w.conductor w.cut a.cut log a.out (mail_to y.node.slot a.out) q.1.x y
-              (subst (λ n. SamePlace s w.conductor w.cut a.cut n.slot) q.1.put.node (step.others y.node.slot q.0 (named.replica, named.node))) q.1.put (none_to y.node.slot) (old_at y.node.slot q.1.x q.1.there)
-
-  -- ---- letters
-
-  desk_is : next.posts.desk ≡ w.posts.desk ++ desk_of a.out
-  desk_is = posted_desk s.nodes a.out changed
-
-  old_arrives : (sent : Sent) → Arrived s log w sent → Arrived s now next sent
-  old_arrives sent h = by sent.to h
-    where
-      by : (to : BoxId) → Arrives s log w to sent.letter → Arrives s now next to sent.letter
-      by boxes.Conductor (inl lies) = inl (subst (In sent.letter) (sym desk_is) (in_left sent.letter w.posts.desk (desk_of a.out) lies))
-      by boxes.Conductor (inr told) = inr told
-      by (boxes.Slot name) old = λ y there. which y (slot_next name y there)
-        where
-          which : (y : SlotState) → After name y → In sent.letter y.box ⊎ Did s.plan now sent.letter y.node
-          which y (inl q) = kept_put s now a.slot y (mail_to name a.out) sent.letter q.1 (step.kept sent.letter (old x (here_next name q.0)))
-          which y (inr q) = kept_put s now q.1.x y (mail_to name a.out) sent.letter q.1.put (kept_more s log a.out q.1.x sent.letter (old q.1.x q.1.there))
-
-  -- what was sent lies at the back of its inbox
-  lies_next : (name : SlotId) (letter : Letter) → In letter (mail_to name a.out) → Arrives s now next (boxes.Slot name) letter
-  lies_next name letter h = λ y there. by y (slot_next name y there)
-    where
-      by : (y : SlotState) → After name y → In letter y.box ⊎ Did s.plan now letter y.node
-      by y (inl q) = inl (subst (In letter) (sym q.1.box) (in_right letter a.slot.box (mail_to name a.out) h))
-      by y (inr q) = inl (subst (In letter) (sym q.1.put.box) (in_right letter q.1.x.box (mail_to name a.out) h))
-
-  new_arrive : (rest : List Sent) → ((name : SlotId) (letter : Letter) → In letter (mail_to name rest) → In letter (mail_to name a.out)) → ((letter : Letter) → In letter (desk_of rest) → In letter (desk_of a.out)) →
-      AllByRecursion (Arrived s now next) rest
-  new_arrive [] mail desk = tt
-  new_arrive (sent ∷ more) mail desk = (first sent.to refl, new_arrive more (λ name letter h. mail name letter (behind name letter (is_to name sent.to) h)) (λ letter h. desk letter (behind_desk letter sent.to h)))
-    where
-      behind : (name : SlotId) (letter : Letter) (b : Bool) → In letter (mail_to name more) → In letter (cond b (sent.letter ∷ mail_to name more) (mail_to name more))
-      behind name letter true h = inr h
-      behind name letter false h = h
-
-      behind_desk : (letter : Letter) (to : BoxId) → In letter (desk_of more) → In letter (to_desk to sent.letter (desk_of more))
-      behind_desk letter (boxes.Slot name) h = h
-      behind_desk letter boxes.Conductor h = inr h
-
-      first : (to : BoxId) → sent.to ≡ to → Arrives s now next to sent.letter
-      first (boxes.Slot name) at =
-          lies_next name sent.letter
-          (mail name sent.letter
-          (subst (λ to. In sent.letter (cond (is_to name to) (sent.letter ∷ mail_to name more) (mail_to name more))) (sym at)
-          (subst (λ b. In sent.letter (cond b (sent.letter ∷ mail_to name more) (mail_to name more))) (sym (own_name name)) (inl refl))))
-      first boxes.Conductor at =
-          inl
-          (subst (In sent.letter) (sym desk_is)
-          (in_right sent.letter w.posts.desk (desk_of a.out) (desk sent.letter (subst (λ to. In sent.letter (to_desk to sent.letter (desk_of more))) (sym at) (inl refl)))))
-
-  -- ---- packed slots
-
-  record Next (r j k : ℕ) (had : HasPacked s w r j k) : Type 0 where
-    packed : HasPacked s next r j k
-    other : packed.body.other ≡ had.body.other
-
-  packed_next : (r j k : ℕ) → w.conductor.ledger.base < k → (had : HasPacked s w r j k) → Next r j k had
-  packed_next r j k late had = by (slot_next (slot_named r j) u.0 there)
-    where
-      at : IsNamed s.nodes (number_of s.nodes (slot_named r j)) had.slot.node.slot
-      at = place_is s.nodes w.posts.slots sound.names (number_of s.nodes (slot_named r j)) had.slot (slot_is s.nodes w.posts.slots (slot_named r j) had.slot had.there).there
-
-      name : had.slot.node.slot ≡ slot_named r j
-      name = (slot_is s.nodes w.posts.slots (slot_named r j) had.slot had.there).name
-
-      u : (y : SlotState) × (slice_get next.posts.slots (r * s.nodes + j) ≡ Some y) × (y.node.slot ≡ slot_named r j)
-      u =
-          let replica : r ≤ 1 = subst (λ (n : SlotId). n.replica ≤ 1) name at.replica in
-          let node : j < s.nodes = subst (λ (n : SlotId). n.node < s.nodes) name at.node in
-          get_unmapped slot_name next.posts.slots (r * s.nodes + j) (slot_named r j) (ap (λ l. slice_get l (r * s.nodes + j)) sound_next.names ∙ name_at s.nodes r j (omega (arith, replica)) node)
-
-      there : slot_at s.nodes next.posts.slots (slot_named r j) ≡ Some u.0
-      there = found s.nodes next.posts.slots (slot_named r j) u.0 u.1 u.2
-
-      by : After (slot_named r j) u.0 → Next r j k had
-      by (inr q) =
-          let same : q.1.x ≡ had.slot = same_Some q.1.x had.slot (sym q.1.there ∙ had.there) in
-          record {
-            packed = record { slot = u.0; there = there; body = had.body; alive = ap (λ n. n.body) q.1.put.node ∙ ap (λ (z : SlotState). z.node.body) same ∙ had.alive; piece = had.piece; fresh = had.fresh; at = had.at };
-            other = refl;
-          }
-      by (inl q) = which step.fresh
-        where
-          same : x ≡ had.slot
-          same = same_Some x had.slot (sym (here_next (slot_named r j) q.0) ∙ had.there)
-
-          body : step.body ≡ had.body
-          body = same_Some step.body had.body (sym step.alive ∙ ap (λ (z : SlotState). z.node.body) same ∙ had.alive)
-
-          which : (step.after.fresh ≡ step.body.fresh) ⊎ (((k : ℕ) → w.conductor.phase ≡ phases.Agreed k → ⊥) × IfSome step.body.fresh (λ (piece : Piece). piece.iteration ≤ w.conductor.ledger.base)) → Next r j k had
-          which (inl e) = record {
-            packed = record { slot = u.0; there = there; body = step.after; alive = ap (λ n. n.body) q.1.node ∙ step.lives; piece = had.piece; fresh = e ∙ ap (λ (b : Body). b.fresh) body ∙ had.fresh; at = had.at };
-            other = step.other ∙ ap (λ (b : Body). b.other) body;
-          }
-          which (inr e) = absurd (let low : had.piece.iteration ≤ w.conductor.ledger.base = subst (λ f. IfSome f (λ (piece : Piece). piece.iteration ≤ w.conductor.ledger.base)) (ap (λ (b : Body). b.fresh) body ∙ had.fresh) e.1 in let its = had.at in omega (arith, low, its, late))
-
-  compared_next : (j k : ℕ) → w.conductor.ledger.base < k → Compared s w j k → Compared s next j k
-  compared_next j k late c =
-      let one : Next 0 j k c.first = packed_next 0 j k late c.first in
-      let two : Next 1 j k c.second = packed_next 1 j k late c.second in
-      record { first = one.packed; second = two.packed; held = c.held; other = one.other ∙ c.other; at = c.at }
 
   -- ---- pairs
 
@@ -422,16 +131,16 @@ module _ (s : Setting) (o : Options) (w : WorldState) (slot : SlotId) (x : SlotS
     fresh : (b.fresh ≡ old.fresh) ⊎ ((k : ℕ) → w.conductor.phase ≡ phases.Agreed k → ⊥)
 
   prior : (name : SlotId) (y : SlotState) (b : Body) → slot_at s.nodes next.posts.slots name ≡ Some y → y.node.body ≡ Some b → Prior name y b
-  prior name y b there alive = by (slot_next name y there)
+  prior name y b there alive = by (comes name y there)
     where
-      by : After name y → Prior name y b
+      by : After s w slot a step.name name y → Prior name y b
       by (inr q) = record {
         z = q.1.x;
         there = q.1.there;
         old = b;
         alive = ap (λ n. n.body) (sym q.1.put.node) ∙ alive;
         other = refl;
-        pieces = put_pieces q.1.x y (mail_to name a.out) q.1.put (none_to name);
+        pieces = put_pieces q.1.x y (mail_to name a.out) q.1.put (none_to name).pieces;
         fresh = inl refl;
       }
       by (inl q) =
@@ -442,7 +151,7 @@ module _ (s : Setting) (o : Options) (w : WorldState) (slot : SlotId) (x : SlotS
             old = step.body;
             alive = step.alive;
             other = ap (λ (c : Body). c.other) same ∙ step.other;
-            pieces = put_pieces a.slot y (mail_to name a.out) q.1 (none_to name) ∙ step.pieces;
+            pieces = put_pieces a.slot y (mail_to name a.out) q.1 (none_to name).pieces ∙ step.pieces;
             fresh = which same step.fresh;
           }
         where
@@ -477,45 +186,46 @@ module _ (s : Setting) (o : Options) (w : WorldState) (slot : SlotId) (x : SlotS
 
   -- ---- all of it
 
-  over_next : (r q k j : ℕ) → IsOver s r q k j log → IsOver s r q k j now
-  over_next r q k j h = record {
-    share = record { value = h.share.value; there = in_left _ log a.out h.share.there };
-    total = record { value = h.total.value; there = in_left _ log a.out h.total.there };
-  }
-
-  -- verdicts are kept in an agreed round alone, which is behind the base
-  late_verdict : (j : ℕ) → IsSome (verdict_at w.conductor.verdicts j) → w.conductor.ledger.base < present w.conductor
-  late_verdict j some = by w.conductor.phase w.cut.round refl afloat.beside.phase (sound.conductor.kept j v.0 v.1)
+  fresh_stays : IfSome step.body.fresh (λ (piece : Piece). w.conductor.ledger.base < piece.iteration → step.after.fresh ≡ Some piece)
+  fresh_stays = by step.body.fresh refl
     where
-      v : (v : Verdict) × (verdict_at w.conductor.verdicts j ≡ Some v)
-      v = some_of (verdict_at w.conductor.verdicts j) some
+      by : (f : Option Piece) → step.body.fresh ≡ f → IfSome f (λ (piece : Piece). w.conductor.ledger.base < piece.iteration → step.after.fresh ≡ Some piece)
+      by None there = tt
+      by (Some piece) there = λ late. which late step.fresh
+        where
+          which : w.conductor.ledger.base < piece.iteration → (step.after.fresh ≡ step.body.fresh) ⊎ (((k : ℕ) → w.conductor.phase ≡ phases.Agreed k → ⊥) × IfSome step.body.fresh (λ (piece : Piece). piece.iteration ≤ w.conductor.ledger.base)) →
+              step.after.fresh ≡ Some piece
+          which late (inl e) = e ∙ there
+          which late (inr e) = absurd (let low : piece.iteration ≤ w.conductor.ledger.base = subst (λ f. IfSome f (λ (piece : Piece). piece.iteration ≤ w.conductor.ledger.base)) there e.1 in omega (arith, low, late))
 
-      by : (phase : Phase) (round : Round) → w.conductor.phase ≡ phase → IsPhase w.conductor w.cut.floor phase round → IsKept s.plan s.script s.place w.conductor.first w.conductor.second phase w.conductor.pieces j v.0 →
-          w.conductor.ledger.base < present_in w.conductor.ledger.base phase
-      by phases.Quiet round at h kept = absurd kept
-      by phases.Gather round at h kept = absurd kept
-      by (phases.Agreed k) (rounds.Quiet r) at h kept = absurd h
-      by (phases.Agreed k) (rounds.Gather r f) at h kept = absurd h
-      by (phases.Agreed k) (rounds.Agreed r q) at h kept =
-          let same : k ≡ q = h.0 in
-          let less : w.conductor.ledger.base < q =
-          ltb-true w.conductor.ledger.base q (second (nat_le (due w.conductor.ledger) q) (nat_lt w.conductor.ledger.base q) (first (nat_le (due w.conductor.ledger) q && nat_lt w.conductor.ledger.base q) (nat_le q w.conductor.ledger.iterations) h.1)) in
-          omega (arith, same, less)
+  other_stays : IfSome step.body.fresh (λ (piece : Piece). w.conductor.ledger.base < piece.iteration → IfSome step.body.other (λ (held : Held). held.piece.iteration ≡ piece.iteration → step.after.other ≡ Some held))
+  other_stays = by step.body.fresh
+    where
+      its : (piece : Piece) (q : Option Held) → step.body.other ≡ q → IfSome q (λ (held : Held). held.piece.iteration ≡ piece.iteration → step.after.other ≡ Some held)
+      its piece None there = tt
+      its piece (Some held) there = λ at. step.other ∙ there
+
+      by : (f : Option Piece) → IfSome f (λ (piece : Piece). w.conductor.ledger.base < piece.iteration → IfSome step.body.other (λ (held : Held). held.piece.iteration ≡ piece.iteration → step.after.other ≡ Some held))
+      by None = tt
+      by (Some piece) = λ late. its piece step.body.other refl
 
   pub plain_afloat : Afloat s next
-  plain_afloat = record {
-    log = now;
-    arrived = all_joined (Arrived s now next) log a.out (all_to (Arrived s log w) (Arrived s now next) log old_arrives afloat.arrived) (new_arrive a.out (λ name letter h. h) (λ letter h. h));
-    backed =
-        all_joined (λ (sent : Sent). Backed s next sent.letter) log a.out
-        (all_to (λ (sent : Sent). Backed s w sent.letter) (λ (sent : Sent). Backed s next sent.letter) log (λ sent h. backed_to s w next compared_next refl sent.letter h) afloat.backed)
-        (all_to SentPlain (λ (sent : Sent). Backed s next sent.letter) a.out (λ sent h. plain_backed s next sent.letter h) step.sends);
-    over = λ r q k j hr hq early hj. over_next r q k j (afloat.over r q k j hr hq early hj);
-    slots = slots_next;
-    pairs = pair_next;
-    desk =
-        subst (AllByRecursion (Backed s next)) (sym desk_is)
-        (all_joined (Backed s next) w.posts.desk (desk_of a.out) (all_to (Backed s w) (Backed s next) w.posts.desk (λ letter h. backed_to s w next compared_next refl letter h) afloat.desk) (desk_backed s next a.out step.sends));
-    heard = λ j some. compared_next j (present w.conductor) (late_verdict j some) (afloat.heard j some);
-    beside = step.beside;
-  }
+  plain_afloat = step_afloat s o w slot x a is sound afloat
+      (record {
+        name = step.name;
+        body = step.body;
+        alive = step.alive;
+        after = step.after;
+        lives = step.lives;
+        fresh = fresh_stays;
+        other = other_stays;
+        afloat = step.afloat;
+        kept = step.kept;
+        others = step.others;
+        beside = step.beside;
+        orders = λ name. (none_to name).orders;
+        pieces = λ name h. (none_to name).pieces;
+        backs = all_to SentPlain (λ (sent : Sent). Backed s next sent.letter) a.out (λ sent h. plain_backed s next sent.letter h) step.sends;
+        pairs = pair_next;
+      })
+      sound_next

@@ -27,6 +27,7 @@ pub mod Resuming
 pub mod Posting
 pub mod Waking
 pub mod Starting
+pub mod Carrying
 pub mod Floating
 pub mod Running
 pub mod Accepting

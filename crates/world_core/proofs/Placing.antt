@@ -21,7 +21,8 @@ use Rattle.world_core.specs.Still.{Accepted, Afloat, Beside, Committed, Earlier,
 use Rattle.world_core.specs.Worlds.{Setting, SlotState, WorldState, again, moved_in, number_of, stand, with_back}
 use Rattle.world_core.specs.Worlds as worlds
 use Rattle.world_core.proofs.Due.{may_report, resumed_is, second, first}
-use Rattle.world_core.proofs.Floating.{PlainStep, SamePlace}
+use Rattle.world_core.proofs.Carrying.{SamePlace}
+use Rattle.world_core.proofs.Floating.{PlainStep}
 use Rattle.world_core.proofs.Lists.{all_got}
 use Rattle.world_core.proofs.Mailing.{IsNamed, place_is, slot_is}
 
