@@ -51,7 +51,7 @@ orders_both (x ∷ xs) ys = by (is_mail x) (orders_both xs ys)
     by true h = h
     by false h = ap (λ l. x ∷ l) h
 
-pieces_both : (xs ys : List Letter) → pieces_in (xs ++ ys) ≡ pieces_in xs ++ pieces_in ys
+pub pieces_both : (xs ys : List Letter) → pieces_in (xs ++ ys) ≡ pieces_in xs ++ pieces_in ys
 pieces_both [] ys = refl
 pieces_both (letters.Parcel stamp entry k to payload ∷ xs) ys = pieces_both xs ys
 pieces_both (letters.Partial stamp r k node value ∷ xs) ys = pieces_both xs ys
@@ -67,7 +67,7 @@ pieces_both (letters.Died stamp slot line ∷ xs) ys = pieces_both xs ys
 pieces_both (letters.Stop ∷ xs) ys = pieces_both xs ys
 
 
-append_nil : {A : Type 0} (xs : List A) → xs ++ [] ≡ xs
+pub append_nil : {A : Type 0} (xs : List A) → xs ++ [] ≡ xs
 append_nil [] = refl
 append_nil (x ∷ xs) = ap (λ l. x ∷ l) (append_nil xs)
 
@@ -215,6 +215,21 @@ module _ (s : Setting) (w : WorldState) (slot : SlotId) (a : Acted) (name_is : a
           which : ((name ≡ slot) × (f.x ≡ a.slot)) ⊎ (slot_at s.nodes w.posts.slots name ≡ Some f.x) → After name y
           which (inl q) = absurd (apart q.0)
           which (inr q) = inr (apart, record { x = f.x; there = q; put = f.put })
+-- a slot stands at each name
+pub stands_there : (s : Setting) (o : Options) (w : WorldState) → Sound s o w → (r j : ℕ) → r ≤ 1 → j < s.nodes → (y : SlotState) × (slot_at s.nodes w.posts.slots (slot_named r j) ≡ Some y)
+stands_there s o w sound r j replica node =
+    let u = get_unmapped slot_name w.posts.slots (r * s.nodes + j) (slot_named r j) (ap (λ l. slice_get l (r * s.nodes + j)) sound.names ∙ name_at s.nodes r j (omega (arith, replica)) node) in
+    (u.0, found s.nodes w.posts.slots (slot_named r j) u.0 u.1 u.2)
+
+-- what is known of a buddy's piece asks of the slots their bodies' pieces, and the pieces of an inbox
+pub passes_same : (k : ℕ) (x y other same : SlotState) (b after own kept : Body) → kept.fresh ≡ own.fresh → after.other ≡ b.other → pieces_in y.box ≡ pieces_in x.box → Passes k other x b own → Passes k same y after kept
+passes_same k x y other same b after own kept fresh held pieces (Unsent h) =
+    Unsent (record { unpacked = fresh ∙ h.unpacked; none = pieces ∙ h.none; older = subst (λ q. IfSome q (λ (held : Held). held.piece.iteration < k)) (sym held) h.older })
+passes_same k x y other same b after own kept fresh held pieces (OnItsWay h) =
+    OnItsWay (record { piece = h.piece; packed = fresh ∙ h.packed; at = h.at; one = pieces ∙ h.one; older = subst (λ q. IfSome q (λ (held : Held). held.piece.iteration < k)) (sym held) h.older })
+passes_same k x y other same b after own kept fresh held pieces (IsThere h) =
+    IsThere (record { piece = h.piece; packed = fresh ∙ h.packed; none = pieces ∙ h.none; held = h.held; there = held ∙ h.there; at = h.at })
+
 -- what the event makes of the slot, beside the conductor
 pub record Step (s : Setting) (w : WorldState) (log : List Sent) (slot : SlotId) (x : SlotState) (a : Acted) : Type 0 where
   pub name : a.slot.node.slot ≡ slot

@@ -34,4 +34,5 @@ pub mod Accepting
 pub mod Placing
 pub mod Entering
 pub mod Hearing
+pub mod Packing
 pub mod Telling

@@ -62,17 +62,17 @@ module _ (s : Setting) (o : Options) (w : WorldState) (slot : SlotId) (x : SlotS
     abbrev cut : CutState
     cut = at_place f (slot_place w.cut.nodes name) w.cut
 
-    here : slot_of cut name ≡ f t
+    pub here : slot_of cut name ≡ f t
     here = moved_here w.cut name sound.agreement has f
 
-    away : (other : SlotId) → (other ≡ slot → ⊥) → (other.replica ≤ 1) × (other.node < s.nodes) → SamePlace s w.conductor w.cut cut other
+    pub away : (other : SlotId) → (other ≡ slot → ⊥) → (other.replica ≤ 1) × (other.node < s.nodes) → SamePlace s w.conductor w.cut cut other
     away other apart there = record {
       round = refl;
       slot = at_or_away (λ q. q ≡ slot_of w.cut other) w.cut name other f sound.agreement has (there.0, let n = there.1 in let m = sound.nodes in omega (arith, n, m))
           (λ same. absurd (apart (sym same ∙ (slot_is s.nodes w.posts.slots slot x is).name))) refl;
     }
 
-    beside : Beside s cut w.conductor
+    pub beside : Beside s cut w.conductor
     beside = record {
       phase = afloat.beside.phase;
       both = afloat.beside.both;
