@@ -35,4 +35,5 @@ pub mod Placing
 pub mod Entering
 pub mod Hearing
 pub mod Packing
+pub mod Piecing
 pub mod Telling

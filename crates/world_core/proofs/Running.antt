@@ -27,7 +27,7 @@ use Rattle.world_core.proofs.Mailing.{slot_is}
 use Rattle.world_core.proofs.Waking.{IsNoPiece, Leaves, heard_leaves, ran_leaves}
 
 -- a stage asks of a body its fresh piece, and whether it waits
-stage_on : (cut : CutState) (c : ConductorState) (t : Slot) (x y : SlotState) (b after : Body) → after.fresh ≡ b.fresh → after.waits ≡ b.waits → y.node.slot ≡ x.node.slot → y.node.last ≡ x.node.last → y.since ≡ x.since → orders_in y.box ≡ orders_in x.box →
+pub stage_on : (cut : CutState) (c : ConductorState) (t : Slot) (x y : SlotState) (b after : Body) → after.fresh ≡ b.fresh → after.waits ≡ b.waits → y.node.slot ≡ x.node.slot → y.node.last ≡ x.node.last → y.since ≡ x.since → orders_in y.box ≡ orders_in x.box →
     Stage cut c t x b → Stage cut c t y after
 stage_on cut c t x y b after fresh waits name last since orders (Free is) =
     Free (record { free = is.free; fresh = fresh ∙ is.fresh; goes = waits ∙ is.goes; orders = orders ∙ is.orders; base = ap (λ l. l.base) last ∙ is.base; packed = is.packed })
