@@ -37,3 +37,4 @@ pub mod Hearing
 pub mod Packing
 pub mod Piecing
 pub mod Telling
+pub mod Stepping
