@@ -38,3 +38,5 @@ pub mod Packing
 pub mod Piecing
 pub mod Telling
 pub mod Stepping
+pub mod Turning
+pub mod Looking

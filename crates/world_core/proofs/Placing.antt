@@ -31,7 +31,7 @@ append_nil [] = refl
 append_nil (x ∷ xs) = ap (λ l. x ∷ l) (append_nil xs)
 
 -- what a move at a place keeps it keeps at each
-kept_at : {B : Type 0} (f : Slot → B) (move : Slot → Slot) (d : Slot) → ((t : Slot) → f (move t) ≡ f t) → (xs : List Slot) (i k : ℕ) → f (slice_index_or (slice_set xs i (move (slice_index_or xs i d))) k d) ≡ f (slice_index_or xs k d)
+pub kept_at : {B : Type 0} (f : Slot → B) (move : Slot → Slot) (d : Slot) → ((t : Slot) → f (move t) ≡ f t) → (xs : List Slot) (i k : ℕ) → f (slice_index_or (slice_set xs i (move (slice_index_or xs i d))) k d) ≡ f (slice_index_or xs k d)
 kept_at f move d keeps [] i k = refl
 kept_at f move d keeps (x ∷ xs) zero zero = keeps x
 kept_at f move d keeps (x ∷ xs) zero (suc k) = refl
