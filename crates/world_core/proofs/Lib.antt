@@ -40,3 +40,4 @@ pub mod Telling
 pub mod Stepping
 pub mod Turning
 pub mod Looking
+pub mod Marking

@@ -98,7 +98,7 @@ module _ (s : Setting) (o : Options) (w : WorldState) (sound : Sound s o w) (afl
   turned : Turned s w afloat cut gathers (again s.plan cut) alike_again
   turned = record {
     ledger = refl;
-    told = told;
+    told = λ letter backed h. told letter h;
     slots = λ m x there h. slot_turned s w.cut cut c gathers afloat.log x (again s.plan cut x) (stands x.node.slot) (alike_again x) (subst (λ k. Owes s.plan s.place k afloat.log x.node) present_is) h;
     pairs = λ x other b own one two alive theirs h. subst (λ p. PairIn p other x b own) quiet h;
     heard = λ j some. absurd (no_verdict j some);
@@ -111,7 +111,7 @@ module _ (s : Setting) (o : Options) (w : WorldState) (sound : Sound s o w) (afl
 -- ---- a slot is seen
 
 -- a mark that stands after another was set was it, or stood before
-mark_from : (marks : List Bool) (i j : ℕ) → slice_index_or (slice_set marks i true) j false ≡ true → (j ≡ i) ⊎ (slice_index_or marks j false ≡ true)
+pub mark_from : (marks : List Bool) (i j : ℕ) → slice_index_or (slice_set marks i true) j false ≡ true → (j ≡ i) ⊎ (slice_index_or marks j false ≡ true)
 mark_from [] i j h = inr h
 mark_from (x ∷ more) zero zero h = inl refl
 mark_from (x ∷ more) zero (suc j) h = inr h
@@ -220,7 +220,7 @@ module _ (s : Setting) (o : Options) (w : WorldState) (sound : Sound s o w) (afl
     turned_seen : Turned s w afloat seen_cut sees (λ x. x) itself
     turned_seen = record {
       ledger = refl;
-      told = told_same;
+      told = λ letter backed h. told_same letter h;
       slots = λ m x there h. slot_turned s w.cut seen_cut d sees afloat.log x x (stays_on x.node.slot) (itself x) (λ q. q) h;
       pairs = λ x other b own one two alive theirs h. h;
       heard = afloat.heard;

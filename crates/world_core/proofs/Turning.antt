@@ -25,7 +25,7 @@ use Rattle.conductor_core.specs.Tells.{verdict_at}
 use Rattle.world_core.specs.Still.{Accepted, Afloat, Arrived, Arrives, Backed, Beside, Committed, Compared, Earlier, Free, Freed, HasPacked, IsThere, OnItsWay, Packed, Pair, PairIn, Passes, SlotAfloat, Stage, Told, Unsent, orders_in, pieces_in, plain_stamp, present}
 use Rattle.world_core.specs.Worlds.{Setting, SlotState, WorldState, number_of, slot_at}
 use Rattle.world_core.proofs.Carrying.{passes_same}
-use Rattle.world_core.proofs.Lists.{all_got, all_to, get_mapped, get_unmapped}
+use Rattle.world_core.proofs.Lists.{all_got, all_pairs, all_to, get_mapped, get_unmapped}
 use Rattle.world_core.proofs.Mailing.{Is, found, slot_is}
 
 -- a slot of which only what is kept of it changed
@@ -136,7 +136,7 @@ module _ (s : Setting) (w : WorldState) (afloat : Afloat s w) (new : CutState) (
   -- what the move asks
   pub record Turned : Type 0 where
     pub ledger : now.ledger ≡ w.conductor.ledger
-    pub told : (letter : Letter) → Told letter w.conductor → Told letter now
+    pub told : (letter : Letter) → Backed s w letter → Told letter w.conductor → Told letter now
     pub slots : (m : ℕ) (x : SlotState) → slice_get w.posts.slots m ≡ Some x → SlotAfloat s w.cut w.conductor afloat.log x → SlotAfloat s new now afloat.log (f x)
     pub pairs : (x other : SlotState) (b own : Body) → SlotAfloat s w.cut w.conductor afloat.log x → SlotAfloat s w.cut w.conductor afloat.log other → x.node.body ≡ Some b → other.node.body ≡ Some own →
         PairIn w.conductor.phase other x b own → PairIn now.phase other x b own
@@ -198,12 +198,12 @@ module _ (s : Setting) (w : WorldState) (afloat : Afloat s w) (new : CutState) (
         passes_turned now.phase one.x y two.x other b own (ap pieces_in one.kin.box)
         (turned.pairs one.x two.x b own (old_at (slot_named 0 j) one.x one.there) (old_at (slot_named 1 j) two.x two.there) mine theirs (afloat.pairs j hj one.x two.x b own one.there two.there mine theirs))
 
-    arrives_turned : (sent : Sent) → Arrived s afloat.log w sent → Arrived s afloat.log turned_to sent
-    arrives_turned sent h = by sent.to h
+    arrives_turned : (sent : Sent) → Backed s w sent.letter → Arrived s afloat.log w sent → Arrived s afloat.log turned_to sent
+    arrives_turned sent backed h = by sent.to h
       where
         by : (to : BoxId) → Arrives s afloat.log w to sent.letter → Arrives s afloat.log turned_to to sent.letter
         by boxes.Conductor (inl lies) = inl lies
-        by boxes.Conductor (inr told) = inr (turned.told sent.letter told)
+        by boxes.Conductor (inr told) = inr (turned.told sent.letter backed told)
         by (boxes.Slot name) old = λ y there. which y (before name y there)
           where
             which : (y : SlotState) → Before name y → In sent.letter y.box ⊎ Did s.plan afloat.log sent.letter y.node
@@ -221,7 +221,7 @@ module _ (s : Setting) (w : WorldState) (afloat : Afloat s w) (new : CutState) (
     pub turned_afloat : Afloat s turned_to
     turned_afloat = record {
       log = afloat.log;
-      arrived = all_to (Arrived s afloat.log w) (Arrived s afloat.log turned_to) afloat.log arrives_turned afloat.arrived;
+      arrived = all_pairs (λ (sent : Sent). Backed s w sent.letter) (Arrived s afloat.log w) (Arrived s afloat.log turned_to) afloat.log arrives_turned afloat.backed afloat.arrived;
       backed = all_to (λ (sent : Sent). Backed s w sent.letter) (λ (sent : Sent). Backed s turned_to sent.letter) afloat.log (λ sent h. backed_turned turned.ledger sent.letter h) afloat.backed;
       over = λ r q k j hr hq early hj. afloat.over r q k j hr hq (subst (λ (l : LedgerState). k < l.base) turned.ledger early) hj;
       slots = slots_turned;
