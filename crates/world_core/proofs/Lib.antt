@@ -41,3 +41,4 @@ pub mod Stepping
 pub mod Turning
 pub mod Looking
 pub mod Marking
+pub mod Agreeing

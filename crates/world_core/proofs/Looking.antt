@@ -100,7 +100,7 @@ module _ (s : Setting) (o : Options) (w : WorldState) (sound : Sound s o w) (afl
     ledger = refl;
     told = λ letter backed h. told letter h;
     slots = λ m x there h. slot_turned s w.cut cut c gathers afloat.log x (again s.plan cut x) (stands x.node.slot) (alike_again x) (subst (λ k. Owes s.plan s.place k afloat.log x.node) present_is) h;
-    pairs = λ x other b own one two alive theirs h. subst (λ p. PairIn p other x b own) quiet h;
+    pairs = λ j hj x other b own there_x there_other one two alive theirs h. subst (λ p. PairIn p other x b own) quiet h;
     heard = λ j some. absurd (no_verdict j some);
     beside = beside;
   }
@@ -222,7 +222,7 @@ module _ (s : Setting) (o : Options) (w : WorldState) (sound : Sound s o w) (afl
       ledger = refl;
       told = λ letter backed h. told_same letter h;
       slots = λ m x there h. slot_turned s w.cut seen_cut d sees afloat.log x x (stays_on x.node.slot) (itself x) (λ q. q) h;
-      pairs = λ x other b own one two alive theirs h. h;
+      pairs = λ j hj x other b own there_x there_other one two alive theirs h. h;
       heard = afloat.heard;
       beside = beside_seen;
     }

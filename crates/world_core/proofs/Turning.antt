@@ -138,7 +138,7 @@ module _ (s : Setting) (w : WorldState) (afloat : Afloat s w) (new : CutState) (
     pub ledger : now.ledger ≡ w.conductor.ledger
     pub told : (letter : Letter) → Backed s w letter → Told letter w.conductor → Told letter now
     pub slots : (m : ℕ) (x : SlotState) → slice_get w.posts.slots m ≡ Some x → SlotAfloat s w.cut w.conductor afloat.log x → SlotAfloat s new now afloat.log (f x)
-    pub pairs : (x other : SlotState) (b own : Body) → SlotAfloat s w.cut w.conductor afloat.log x → SlotAfloat s w.cut w.conductor afloat.log other → x.node.body ≡ Some b → other.node.body ≡ Some own →
+    pub pairs : (j : ℕ) → j < s.nodes → (x other : SlotState) (b own : Body) → slot_at s.nodes w.posts.slots (slot_named 0 j) ≡ Some x → slot_at s.nodes w.posts.slots (slot_named 1 j) ≡ Some other → SlotAfloat s w.cut w.conductor afloat.log x → SlotAfloat s w.cut w.conductor afloat.log other → x.node.body ≡ Some b → other.node.body ≡ Some own →
         PairIn w.conductor.phase other x b own → PairIn now.phase other x b own
     pub heard : (j : ℕ) → IsSome (verdict_at now.verdicts j) → Compared s w j (present now)
     pub beside : Beside s new now
@@ -196,7 +196,7 @@ module _ (s : Setting) (w : WorldState) (afloat : Afloat s w) (new : CutState) (
         let mine : one.x.node.body ≡ Some b = ap (λ n. n.body) (sym one.kin.node) ∙ alive_y in
         let theirs : two.x.node.body ≡ Some own = ap (λ n. n.body) (sym two.kin.node) ∙ alive_other in
         passes_turned now.phase one.x y two.x other b own (ap pieces_in one.kin.box)
-        (turned.pairs one.x two.x b own (old_at (slot_named 0 j) one.x one.there) (old_at (slot_named 1 j) two.x two.there) mine theirs (afloat.pairs j hj one.x two.x b own one.there two.there mine theirs))
+        (turned.pairs j hj one.x two.x b own one.there two.there (old_at (slot_named 0 j) one.x one.there) (old_at (slot_named 1 j) two.x two.there) mine theirs (afloat.pairs j hj one.x two.x b own one.there two.there mine theirs))
 
     arrives_turned : (sent : Sent) → Backed s w sent.letter → Arrived s afloat.log w sent → Arrived s afloat.log turned_to sent
     arrives_turned sent backed h = by sent.to h
