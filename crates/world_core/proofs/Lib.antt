@@ -42,3 +42,4 @@ pub mod Turning
 pub mod Looking
 pub mod Marking
 pub mod Agreeing
+pub mod Happening
