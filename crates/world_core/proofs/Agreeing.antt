@@ -1,7 +1,7 @@
 -- An iteration that is agreed on loses nothing.
 use Rattle.std.proofs.Common.{◌≡◌, ℕ, zero, suc, ◌<◌, ◌≤◌, inl, inr, Bool, true, false, cond, List, [], ◌∷◌, length, refl, ap, sym, ◌∙◌, arith, subst, Option, Some, None, IsSome}
-use Rattle.std.specs.Prelude.{◌⊎◌, ◌==◌, ◌&&◌, ◌||◌, IfSome, is_some, map, nat_le, nat_lt, not, slice_get, slice_index_or}
-use Rattle.std.specs.List.{AllByRecursion, list_all}
+use Rattle.std.specs.Prelude.{◌⊎◌, ◌&&◌, IfSome, nat_le, nat_lt, slice_get, slice_index_or}
+use Rattle.std.specs.List.{list_all}
 use Rattle.std.proofs.lemmas.Bool.Decides.{nat_tests}
 use Rattle.std.proofs.lemmas.Option.{same_Some}
 use Rattle.chare_base.specs.declared.options.Options.{Options}
@@ -11,7 +11,7 @@ use Rattle.iteration_agree.specs.declared.round.Round.TheVariants as rounds
 use Rattle.iteration_agree.specs.declared.round.Taking.TheVariants as takings
 use Rattle.iteration_agree.specs.declared.slot.Cap.{Cap}
 use Rattle.iteration_agree.specs.declared.slot.Slot.{Slot}
-use Rattle.iteration_agree.specs.Cuts.{CutState, HasSlot, agreed, agreed_on, agreement, all_noted, greatest, is_noted, slot_of, slot_place}
+use Rattle.iteration_agree.specs.Cuts.{CutState, HasSlot, agreement, all_noted, greatest, is_noted, slot_of, slot_place}
 use Rattle.iteration_agree.specs.Laws.{AgreesOnGreatest, IsGreatest, IsNoted}
 use Rattle.iteration_agree.specs.Rounds.{number}
 use Rattle.iteration_agree.specs.Under.{UnderSlot}
@@ -28,11 +28,11 @@ use Rattle.node_core.specs.Mail.{BodyOwes, Owes}
 use Rattle.node_core.specs.Nodes.{Body}
 use Rattle.conductor_core.specs.declared.wants.Phase.{Phase}
 use Rattle.conductor_core.specs.declared.wants.Phase.TheVariants as phases
-use Rattle.conductor_core.specs.Conductors.{ConductorState, is_at}
+use Rattle.conductor_core.specs.Conductors.{ConductorState}
 use Rattle.conductor_core.specs.Moves.{slot_named}
 use Rattle.conductor_core.specs.Tells.{IsKept, verdict_at}
 use Rattle.world_core.specs.Sound.{Sound}
-use Rattle.world_core.specs.Still.{Accepted, Afloat, Backed, Beside, Committed, Compared, Earlier, Free, Freed, HasPacked, IsFree, IsPhase, IsPlain, Packed, PairIn, Passes, SlotAfloat, Stage, Told, Unsent, present, present_in}
+use Rattle.world_core.specs.Still.{Accepted, Afloat, Backed, Beside, Committed, Earlier, Free, Freed, HasPacked, IsFree, IsPhase, IsPlain, Packed, PairIn, Passes, SlotAfloat, Stage, Told, Unsent, present, present_in}
 use Rattle.world_core.specs.Worlds.{Setting, SlotState, WorldState, again, number_of, slot_at}
 use Rattle.world_core.proofs.Carrying.{stands_there}
 use Rattle.world_core.proofs.Due.{first, second}

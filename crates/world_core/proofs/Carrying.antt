@@ -33,7 +33,7 @@ use Rattle.conductor_core.specs.Conductors.{ConductorState}
 use Rattle.conductor_core.specs.Moves.{slot_named}
 use Rattle.conductor_core.specs.Tells.{IsKept, is_to, mail_to, verdict_at}
 use Rattle.world_core.specs.Sound.{Sound, slot_name}
-use Rattle.world_core.specs.Still.{Afloat, Accepted, Arrived, Arrives, Backed, Beside, Committed, Compared, Earlier, Free, Freed, HasPacked, IsOver, IsPhase, IsThere, OnItsWay, Packed, Pair, PairIn, Passes, SlotAfloat, Stage, Unsent, orders_in, pieces_in, plain_stamp, present, present_in}
+use Rattle.world_core.specs.Still.{Afloat, Accepted, Arrived, Arrives, Backed, Beside, Committed, Compared, Earlier, Free, Freed, HasPacked, IsOver, IsPhase, IsThere, OnItsWay, Packed, Pair, Passes, SlotAfloat, Stage, Unsent, orders_in, pieces_in, plain_stamp, present, present_in}
 use Rattle.world_core.specs.Worlds.{Acted, Posts, Setting, SlotState, WorldState, after_slot, number_of, slot_at, with_slot}
 use Rattle.world_core.proofs.Due.{first, second}
 use Rattle.world_core.proofs.Lists.{all_got, all_joined, all_to, get_unmapped}

@@ -68,7 +68,7 @@ use Rattle.world_core.specs.Moves.{limit_seen, pack_due, release_due, report_due
 use Rattle.world_core.specs.Sound.{IsBounded, IsPlaced, SlotSound, Sound, begun_of, slot_name}
 use Rattle.world_core.specs.Still.{Afloat, Arrived, Arrives, IsFree, IsHeld, IsPacked, IsPhase, IsPlain, IsStill, NoStandstill, PairIn, Passes, SlotAfloat, Stage, orders_in, pieces_in, plain_stamp, present, present_in, Free, Packed, Accepted, Committed, Freed, Unsent, OnItsWay, IsThere}
 use Rattle.world_core.specs.Worlds.{Setting, SlotState, WorldState, any_news, conductor_due, desk_event, doing_of, enabled, has_cap, has_slot, is_gather, is_quiet, move_due, news_below, sight_in, slot_at, slot_doing, slot_event, stand, takes_move}
-use Rattle.world_core.proofs.Due.{first, second}
+use Rattle.world_core.proofs.Due.{second}
 use Rattle.world_core.proofs.Idling.{Idles, holds_at, idles, no_doing, rests_at}
 use Rattle.world_core.proofs.Lists.{all_got, get_mapped, get_unmapped, in_all}
 use Rattle.world_core.proofs.Mailing.{found}

@@ -1,47 +1,28 @@
 -- An event of a slot that leaves its pieces, or spends one that is the base, loses nothing that was sent.
-use Rattle.std.proofs.Common.{◌≡◌, ℕ, ◌+◌, ◌*◌, ◌<◌, ◌≤◌, inl, inr, Bool, true, false, cond, List, [], ◌∷◌, ◌++◌, refl, ap, sym, ◌∙◌, arith, subst, Option, Some, None, IsSome}
-use Rattle.std.specs.Prelude.{◌⊎◌, ◌==◌, ◌&&◌, IfSome, nat_le, nat_lt, slice_get}
+use Rattle.std.proofs.Common.{◌≡◌, ℕ, ◌<◌, ◌≤◌, inl, inr, Bool, true, false, cond, List, [], ◌∷◌, ◌++◌, refl, ap, sym, ◌∙◌, arith, subst, Option, Some, None}
+use Rattle.std.specs.Prelude.{◌⊎◌, IfSome}
 use Rattle.std.specs.List.{AllByRecursion}
-use Rattle.std.proofs.lemmas.Bool.{ltb-true}
 use Rattle.std.proofs.lemmas.Option.{same_Some}
 use Rattle.chare_base.specs.declared.options.Options.{Options}
 use Rattle.chare_base.specs.declared.slots.SlotId.{SlotId}
-use Rattle.iteration_agree.specs.declared.round.Round.{Round}
-use Rattle.iteration_agree.specs.declared.round.Round.TheVariants as rounds
-use Rattle.iteration_agree.specs.declared.slot.Cap.{Cap}
-use Rattle.iteration_agree.specs.declared.slot.Slot.{Slot}
-use Rattle.iteration_agree.specs.Cuts.{CutState, slot_of}
-use Rattle.iteration_agree.specs.Rounds.{number}
-use Rattle.letter_post.specs.declared.letter.BoxId.{BoxId}
-use Rattle.letter_post.specs.declared.letter.BoxId.TheVariants as boxes
 use Rattle.letter_post.specs.declared.letter.Letter.{Letter}
 use Rattle.letter_post.specs.declared.letter.Letter.TheVariants as letters
 use Rattle.letter_post.specs.declared.letter.Sent.{Sent}
-use Rattle.letter_post.specs.Orders.{is_mail}
-use Rattle.pup_state.specs.declared.compare.Verdict.{Verdict}
 use Rattle.pup_state.specs.declared.piece.Piece.{Piece}
-use Rattle.run_ledger.specs.Conditions.{due}
 use Rattle.node_core.specs.declared.piece.Held.{Held}
-use Rattle.node_core.specs.Mail.{Did, In, Owes}
+use Rattle.node_core.specs.Mail.{Did, In}
 use Rattle.node_core.specs.Nodes.{Body}
-use Rattle.node_core.proofs.Lists.{all_by}
-use Rattle.node_core.proofs.Logs.{did_more, owes_more}
-use Rattle.node_core.proofs.Within.{in_left, in_right}
 use Rattle.conductor_core.specs.declared.wants.Phase.{Phase}
 use Rattle.conductor_core.specs.declared.wants.Phase.TheVariants as phases
-use Rattle.conductor_core.specs.Conductors.{ConductorState}
 use Rattle.conductor_core.specs.Moves.{slot_named}
-use Rattle.conductor_core.specs.Tells.{IsKept, is_to, mail_to, verdict_at}
-use Rattle.world_core.specs.Sound.{Sound, slot_name}
-use Rattle.world_core.specs.Still.{Afloat, Accepted, Arrived, Arrives, Backed, Beside, Committed, Compared, Earlier, Free, Freed, HasPacked, IsOver, IsPhase, IsThere, OnItsWay, Packed, Pair, PairIn, Passes, SlotAfloat, Stage, Unsent, orders_in, pieces_in, plain_stamp, present, present_in}
-use Rattle.world_core.specs.Worlds.{Acted, Posts, Setting, SlotState, WorldState, after_slot, number_of, slot_at, with_slot}
+use Rattle.conductor_core.specs.Tells.{is_to, mail_to}
+use Rattle.world_core.specs.Sound.{Sound}
+use Rattle.world_core.specs.Still.{Afloat, Backed, Beside, IsThere, OnItsWay, Pair, PairIn, Passes, SlotAfloat, Unsent, orders_in, pieces_in}
+use Rattle.world_core.specs.Worlds.{Acted, Setting, SlotState, WorldState, after_slot, slot_at}
 use Rattle.world_core.proofs.Due.{first, second}
-use Rattle.world_core.proofs.Lists.{all_got, all_joined, all_to, get_unmapped}
-use Rattle.world_core.proofs.Mailing.{IsNamed, found, own_name, place_is, same_slot, slot_is}
-use Rattle.world_core.proofs.Posting.{From, Put, desk_of, to_desk, posted_at, posted_desk, slot_after, slot_changed}
-use Rattle.world_core.proofs.Seen.{name_at, some_of}
+use Rattle.world_core.proofs.Lists.{all_to}
 use Rattle.world_core.proofs.Waking.{IsPlainMail, SentPlain}
-use Rattle.world_core.proofs.Carrying.{After, SamePlace, Step, put_pieces, slot_next as next_slot, step_afloat}
+use Rattle.world_core.proofs.Carrying.{After, SamePlace, put_pieces, slot_next as next_slot, step_afloat}
 
 -- ---- plain letters
 

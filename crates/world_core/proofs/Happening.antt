@@ -1,8 +1,8 @@
 -- Every event but the one that makes a round quiet loses nothing.
-use Rattle.std.proofs.Common.{◌≡◌, ℕ, ◌≤◌, Bool, true, false, cond, List, [], ◌∷◌, refl, ap, sym, ◌∙◌, arith, subst, Option, Some, None}
+use Rattle.std.proofs.Common.{◌≡◌, ℕ, Bool, true, false, cond, List, [], ◌∷◌, refl, ap, sym, ◌∙◌, arith, subst, Option, Some, None}
 use Rattle.chare_base.specs.declared.options.Options.{Options}
 use Rattle.iteration_agree.specs.declared.round.Taking.TheVariants as takings
-use Rattle.iteration_agree.specs.Cuts.{agreed, agreed_on, agreement, slot_of}
+use Rattle.iteration_agree.specs.Cuts.{agreed, agreed_on, agreement}
 use Rattle.iteration_agree.specs.Laws.{AgreesOnGreatest}
 use Rattle.letter_post.specs.declared.letter.Letter.{Letter}
 use Rattle.letter_post.specs.declared.letter.Letter.TheVariants as letters
@@ -11,10 +11,9 @@ use Rattle.conductor_core.specs.declared.wants.CutAnswer.TheVariants as answers
 use Rattle.conductor_core.specs.declared.wants.CutMove.{CutMove}
 use Rattle.conductor_core.specs.declared.wants.CutMove.TheVariants as moves
 use Rattle.conductor_core.specs.declared.wants.Phase.TheVariants as phases
-use Rattle.conductor_core.specs.Conductors.{ConductorState, conductor_did, conductor_heard, counts, moved, verdict_heard, wanted, with_verdict}
+use Rattle.conductor_core.specs.Conductors.{conductor_did, conductor_heard, counts, moved, wanted, with_verdict}
 use Rattle.conductor_core.specs.Tells.{MoveFits, MovesFit}
 use Rattle.world_core.specs.declared.doing.Doing.TheVariants as doings
-use Rattle.world_core.specs.declared.event.Event.{Event}
 use Rattle.world_core.specs.declared.event.Event.TheVariants as events
 use Rattle.world_core.specs.Sound.{EveryEventKeeps, Sound}
 use Rattle.world_core.specs.Still.{Afloat, EveryEventKeepsAfloat, IsPlain}
@@ -23,7 +22,7 @@ use Rattle.world_core.proofs.Agreeing.{agreed_afloat}
 use Rattle.world_core.proofs.Marking.{look_afloat}
 use Rattle.world_core.proofs.Stepping.{slot_afloat}
 use Rattle.world_core.proofs.Telling.{heard_afloat}
-use Rattle.world_core.proofs.Turning.{Alike, Turned, slot_turned, turned_afloat}
+use Rattle.world_core.proofs.Turning.{Alike, slot_turned, turned_afloat}
 
 -- ---- an iteration is agreed on, or a slot is missing
 

@@ -1,6 +1,6 @@
 -- A round that the conductor opens, and the slots that it looks at, lose nothing.
-use Rattle.std.proofs.Common.{◌≡◌, ℕ, zero, suc, ◌<◌, ◌≤◌, inl, inr, Bool, true, false, cond, List, [], ◌∷◌, ◌++◌, length, refl, ap, sym, ◌∙◌, arith, subst, Option, Some, None, IsSome}
-use Rattle.std.specs.Prelude.{◌⊎◌, ◌==◌, IfSome, map, replicate, slice_index_or, slice_set}
+use Rattle.std.proofs.Common.{◌≡◌, ℕ, zero, suc, inl, inr, Bool, true, false, List, [], ◌∷◌, length, refl, ap, sym, ◌∙◌, subst, Option, Some, IsSome}
+use Rattle.std.specs.Prelude.{◌⊎◌, map, replicate, slice_index_or, slice_set}
 use Rattle.chare_base.specs.declared.options.Options.{Options}
 use Rattle.chare_base.specs.declared.slots.SlotId.{SlotId}
 use Rattle.iteration_agree.specs.declared.round.Round.{Round}
@@ -17,12 +17,12 @@ use Rattle.pup_state.specs.declared.compare.Verdict.{Verdict}
 use Rattle.node_core.specs.Mail.{Owes}
 use Rattle.conductor_core.specs.declared.wants.Phase.{Phase}
 use Rattle.conductor_core.specs.declared.wants.Phase.TheVariants as phases
-use Rattle.conductor_core.specs.Conductors.{ConductorState, is_at}
+use Rattle.conductor_core.specs.Conductors.{ConductorState}
 use Rattle.conductor_core.specs.Moves.{is_noted}
 use Rattle.conductor_core.specs.Tells.{IsKept, verdict_at}
 use Rattle.world_core.specs.Sound.{Sound}
-use Rattle.world_core.specs.Still.{Afloat, Beside, Compared, IsPhase, PairIn, Told, present, present_in}
-use Rattle.world_core.specs.Worlds.{Setting, SlotState, WorldState, again, in_cut}
+use Rattle.world_core.specs.Still.{Afloat, Beside, IsPhase, PairIn, Told, present, present_in}
+use Rattle.world_core.specs.Worlds.{Setting, SlotState, WorldState, again}
 use Rattle.world_core.proofs.Placing.{kept_at}
 use Rattle.world_core.proofs.Seen.{some_of}
 use Rattle.world_core.proofs.Turning.{Alike, SameStand, Turned, slot_turned, turned_afloat, turned_to}

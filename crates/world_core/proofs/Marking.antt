@@ -1,5 +1,5 @@
 -- A move of the conductor that looks at a slot, notes one or opens a round loses nothing.
-use Rattle.std.proofs.Common.{◌≡◌, ℕ, ◌<◌, ◌≤◌, inl, inr, Bool, true, false, cond, List, [], ◌∷◌, refl, ap, sym, ◌∙◌, arith, subst, Option, Some, None, IsSome}
+use Rattle.std.proofs.Common.{◌≡◌, ℕ, inl, inr, Bool, true, false, cond, refl, ap, sym, ◌∙◌, arith, subst, Option, Some, None, IsSome}
 use Rattle.std.specs.Prelude.{◌⊎◌, ◌==◌, IfSome, is_some, slice_index_or, slice_set}
 use Rattle.std.proofs.lemmas.Bool.{eqb-true}
 use Rattle.std.proofs.lemmas.Bool.Decides.{nat_tests}
@@ -7,10 +7,8 @@ use Rattle.chare_base.specs.declared.options.Options.{Options}
 use Rattle.chare_base.specs.declared.slots.SlotId.{SlotId}
 use Rattle.iteration_agree.specs.declared.round.Round.{Round}
 use Rattle.iteration_agree.specs.declared.round.Round.TheVariants as rounds
-use Rattle.iteration_agree.specs.declared.round.Sight.{Sight}
-use Rattle.iteration_agree.specs.declared.slot.Cap.{Cap}
 use Rattle.iteration_agree.specs.declared.slot.Slot.{Slot}
-use Rattle.iteration_agree.specs.Cuts.{CutState, HasSlot, noted, opened, slot_of, slot_place}
+use Rattle.iteration_agree.specs.Cuts.{HasSlot, noted, opened, slot_of, slot_place}
 use Rattle.iteration_agree.specs.Rounds.{number}
 use Rattle.iteration_agree.specs.Slots.{cap_in, opening_slot, slot_noted}
 use Rattle.iteration_agree.specs.Under.{UnderSlot}
@@ -20,7 +18,6 @@ use Rattle.iteration_agree.proofs.Lists as lists
 use Rattle.conductor_core.specs.declared.wants.CutAnswer.TheVariants as answers
 use Rattle.conductor_core.specs.declared.wants.CutMove.{CutMove}
 use Rattle.conductor_core.specs.declared.wants.CutMove.TheVariants as moves
-use Rattle.conductor_core.specs.declared.wants.Phase.{Phase}
 use Rattle.conductor_core.specs.declared.wants.Phase.TheVariants as phases
 use Rattle.conductor_core.specs.Conductors.{ConductorState, conductor_did, moved, nodes_of, wanted, with_note, with_sight}
 use Rattle.conductor_core.specs.Moves.{is_noted, slot_after}

@@ -15,7 +15,7 @@ use Rattle.iteration_agree.specs.declared.slot.Cap.{Cap}
 use Rattle.iteration_agree.specs.declared.slot.Slot.{Slot}
 use Rattle.iteration_agree.specs.Cuts.{CutState, packed_by, slot_of}
 use Rattle.iteration_agree.specs.Rounds.{number}
-use Rattle.iteration_agree.specs.Slots.{is_in, slot_packed, standing_of}
+use Rattle.iteration_agree.specs.Slots.{is_in, slot_packed}
 use Rattle.iteration_agree.specs.Under.{SawAgreed}
 use Rattle.letter_post.specs.declared.letter.Letter.{Letter}
 use Rattle.letter_post.specs.declared.letter.Letter.TheVariants as letters
@@ -23,24 +23,23 @@ use Rattle.letter_post.specs.declared.letter.Sent.{Sent}
 use Rattle.letter_post.specs.declared.stamp.Stamp.{Stamp}
 use Rattle.pup_state.specs.declared.piece.Piece.{Piece}
 use Rattle.node_core.specs.declared.piece.Held.{Held}
-use Rattle.node_core.specs.Mail.{BodyOwes, Did, In, Moves, Owes, PacksMove}
+use Rattle.node_core.specs.Mail.{BodyOwes, Did, In, Moves, PacksMove}
 use Rattle.node_core.specs.Nodes.{Body, NodeState, Outcome, all_at, compared, next_begin, node_packed, pack_sends, piece_of, rests, to_slot, verdict_sent}
 use Rattle.conductor_core.specs.declared.wants.Phase.{Phase}
 use Rattle.conductor_core.specs.declared.wants.Phase.TheVariants as phases
 use Rattle.conductor_core.specs.Conductors.{ConductorState}
 use Rattle.conductor_core.specs.Moves.{slot_named}
-use Rattle.conductor_core.specs.Tells.{is_to, mail_to}
+use Rattle.conductor_core.specs.Tells.{mail_to}
 use Rattle.world_core.specs.declared.doing.Since.{Since}
 use Rattle.world_core.specs.declared.doing.Since.TheVariants.{Nothing}
-use Rattle.world_core.specs.declared.doing.SlotMove.{SlotMove}
 use Rattle.world_core.specs.declared.doing.SlotMove.TheVariants as slot_moves
 use Rattle.world_core.specs.Moves.{begin_due, is_below, limit_of, move_of, pack_due, pack_or_begin, release_due, report_due, same_round}
 use Rattle.world_core.specs.Sound.{SlotSound, Sound}
 use Rattle.world_core.specs.Still.{Accepted, Afloat, Backed, Beside, Committed, Compared, Free, Freed, HasPacked, IsFree, IsPhase, IsPlain, IsThere, OnItsWay, Packed, Pair, PairIn, Passes, SlotAfloat, Stage, Unsent, orders_in, pieces_in, plain_stamp, present, present_in}
 use Rattle.world_core.specs.Worlds.{Acted, Setting, SlotState, WorldState, acted, after_slot, number_of, slot_at, slot_move, stand}
 use Rattle.world_core.proofs.Accepting.{not_earlier}
-use Rattle.world_core.proofs.Carrying.{After, SamePlace, Step, passes_same, pieces_both, put_pieces, slot_next, stands_there, step_afloat}
-use Rattle.world_core.proofs.Due.{IsDue, PackDue, due_is, first, second}
+use Rattle.world_core.proofs.Carrying.{After, SamePlace, passes_same, pieces_both, put_pieces, slot_next, stands_there, step_afloat}
+use Rattle.world_core.proofs.Due.{PackDue, due_is, first, second}
 use Rattle.world_core.proofs.Lists.{all_got}
 use Rattle.world_core.proofs.Mailing.{IsNamed, place_is, same_slot, slot_is}
 use Rattle.world_core.proofs.Posting.{Put}

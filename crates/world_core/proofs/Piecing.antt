@@ -3,7 +3,6 @@ use Rattle.std.proofs.Common.{◌≡◌, ℕ, zero, suc, ◌<◌, ◌≤◌, inl
 use Rattle.std.specs.Prelude.{◌⊎◌, ◌==◌, ◌||◌, IfSome, nat_lt, not}
 use Rattle.std.specs.List.{AllByRecursion}
 use Rattle.std.proofs.lemmas.Bool.{eqb-true}
-use Rattle.std.proofs.lemmas.Bool.Decides.{nat_tests}
 use Rattle.std.proofs.lemmas.Option.{same_Some}
 use Rattle.chare_base.specs.declared.options.Options.{Options}
 use Rattle.chare_base.specs.declared.plan.Plan.{Plan}
@@ -29,10 +28,9 @@ use Rattle.conductor_core.specs.Tells.{mail_to}
 use Rattle.world_core.specs.Sound.{SlotSound, Sound}
 use Rattle.world_core.specs.Still.{Afloat, Backed, Compared, HasPacked, IsThere, OnItsWay, Pair, PairIn, Passes, SlotAfloat, Stage, Unsent, orders_in, pieces_in, plain_stamp, present, present_in}
 use Rattle.world_core.specs.Worlds.{Acted, Setting, SlotState, WorldState, after_slot, number_of, slot_at, slot_heard}
-use Rattle.world_core.proofs.Carrying.{After, Step, passes_same, put_pieces, slot_next, stands_there, step_afloat}
+use Rattle.world_core.proofs.Carrying.{After, passes_same, put_pieces, slot_next, stands_there, step_afloat}
 use Rattle.world_core.proofs.Lists.{all_got}
 use Rattle.world_core.proofs.Mailing.{IsNamed, place_is, slot_is}
-use Rattle.world_core.proofs.Posting.{Put}
 use Rattle.world_core.proofs.Running.{heard_kept, old, stage_on}
 use Rattle.world_core.proofs.Waking.{KeepsPiece, piece_kept_on}
 

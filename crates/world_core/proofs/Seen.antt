@@ -6,7 +6,6 @@ use Rattle.std.proofs.lemmas.Bool.{eq-eqb, eqb-true}
 use Rattle.std.proofs.lemmas.Bool.Decides.{nat_tests}
 use Rattle.std.proofs.lemmas.Option.{same_Some}
 use Rattle.chare_base.specs.declared.plan.Plan.{Plan}
-use Rattle.chare_base.specs.Elements.{elements}
 use Rattle.chare_base.specs.Placing.{members, members_from}
 use Rattle.iteration_agree.specs.declared.round.Round.{Round}
 use Rattle.iteration_agree.specs.declared.round.Sight.{Sight}

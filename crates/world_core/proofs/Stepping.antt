@@ -3,7 +3,6 @@ use Rattle.std.proofs.Common.{◌≡◌, ℕ, zero, suc, List, [], ◌∷◌, re
 use Rattle.std.specs.Prelude.{slice_get, slice_set}
 use Rattle.std.proofs.lemmas.Option.{same_Some}
 use Rattle.chare_base.specs.declared.options.Options.{Options}
-use Rattle.chare_base.specs.declared.plan.ElementId.{ElementId}
 use Rattle.chare_base.specs.declared.slots.SlotId.{SlotId}
 use Rattle.letter_post.specs.declared.letter.Letter.{Letter}
 use Rattle.letter_post.specs.declared.letter.Letter.TheVariants as letters
@@ -13,8 +12,8 @@ use Rattle.world_core.specs.declared.doing.Doing.TheVariants as doings
 use Rattle.world_core.specs.declared.doing.SlotMove.{SlotMove}
 use Rattle.world_core.specs.declared.doing.SlotMove.TheVariants as slot_moves
 use Rattle.world_core.specs.Sound.{Sound}
-use Rattle.world_core.specs.Still.{Afloat, IsPlain, SlotAfloat}
-use Rattle.world_core.specs.Worlds.{Acted, Setting, SlotState, WorldState, after_slot, by_slot, does, number_of, slot_at, slot_heard, slot_move, slot_moved, slot_moved_by, slot_ran, stand, with_slot}
+use Rattle.world_core.specs.Still.{Afloat, IsPlain}
+use Rattle.world_core.specs.Worlds.{Acted, Setting, SlotState, WorldState, after_slot, by_slot, does, number_of, slot_at, slot_heard, slot_move, slot_moved_by, stand}
 use Rattle.world_core.proofs.Due.{IsDue, due_is}
 use Rattle.world_core.proofs.Entering.{begin_step}
 use Rattle.world_core.proofs.Floating.{PlainStep, plain_afloat}

@@ -1,9 +1,8 @@
 -- A move of the conductor that leaves the nodes loses nothing, where the slots, the pairs and the verdicts fit it.
-use Rattle.std.proofs.Common.{◌≡◌, ℕ, ◌<◌, ◌≤◌, inl, inr, Bool, true, false, List, [], ◌∷◌, ◌++◌, refl, ap, sym, ◌∙◌, subst, Option, Some, None, IsSome}
+use Rattle.std.proofs.Common.{◌≡◌, ℕ, ◌<◌, ◌≤◌, inl, inr, List, [], ◌∷◌, refl, ap, sym, ◌∙◌, subst, Some, IsSome}
 use Rattle.std.specs.Prelude.{◌⊎◌, IfSome, map, slice_get}
 use Rattle.std.specs.List.{AllByRecursion}
 use Rattle.chare_base.specs.declared.slots.SlotId.{SlotId}
-use Rattle.iteration_agree.specs.declared.round.Round.{Round}
 use Rattle.iteration_agree.specs.declared.slot.Cap.{Cap}
 use Rattle.iteration_agree.specs.declared.slot.Slot.{Slot}
 use Rattle.iteration_agree.specs.Cuts.{CutState, slot_of}
@@ -22,7 +21,7 @@ use Rattle.conductor_core.specs.declared.wants.Phase.TheVariants as phases
 use Rattle.conductor_core.specs.Conductors.{ConductorState}
 use Rattle.conductor_core.specs.Moves.{slot_named}
 use Rattle.conductor_core.specs.Tells.{verdict_at}
-use Rattle.world_core.specs.Still.{Accepted, Afloat, Arrived, Arrives, Backed, Beside, Committed, Compared, Earlier, Free, Freed, HasPacked, IsThere, OnItsWay, Packed, Pair, PairIn, Passes, SlotAfloat, Stage, Told, Unsent, orders_in, pieces_in, plain_stamp, present}
+use Rattle.world_core.specs.Still.{Accepted, Afloat, Arrived, Arrives, Backed, Beside, Committed, Compared, Earlier, Free, Freed, HasPacked, Packed, Pair, PairIn, SlotAfloat, Stage, Told, orders_in, pieces_in, plain_stamp, present}
 use Rattle.world_core.specs.Worlds.{Setting, SlotState, WorldState, number_of, slot_at}
 use Rattle.world_core.proofs.Carrying.{passes_same}
 use Rattle.world_core.proofs.Lists.{all_got, all_pairs, all_to, get_mapped, get_unmapped}
