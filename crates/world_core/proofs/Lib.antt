@@ -43,3 +43,4 @@ pub mod Looking
 pub mod Marking
 pub mod Agreeing
 pub mod Happening
+pub mod Settling

@@ -1,0 +1,84 @@
+-- What the conductor makes of verdicts in a run without faults: it accepts the checkpoint.
+use Rattle.std.proofs.Common.{◌≡◌, ℕ, zero, suc, Bool, true, false, cond, List, [], ◌∷◌, refl, ap, sym, ◌∙◌, subst, Option, Some, None}
+use Rattle.std.specs.Prelude.{◌↔◌, map, not, slice_index_or}
+use Rattle.chare_base.specs.declared.options.Options.{Options}
+use Rattle.chare_base.specs.declared.plan.ElementId.{ElementId}
+use Rattle.fault_script.specs.declared.fault.Fault.{Fault}
+use Rattle.letter_post.specs.declared.stamp.Stamp.{Stamp}
+use Rattle.letter_post.specs.Stamps.{lines_of}
+use Rattle.letter_post.specs.Truth.{node_records, node_verdict}
+use Rattle.pup_state.specs.declared.compare.Verdict.{Verdict}
+use Rattle.pup_state.specs.declared.compare.Verdict.TheVariants as verdicts
+use Rattle.buddy_compare.specs.Laws.{EqualExactly}
+use Rattle.iteration_agree.specs.declared.round.Round.{Round}
+use Rattle.iteration_agree.specs.declared.round.Round.TheVariants as rounds
+use Rattle.run_ledger.specs.declared.line.LedgerLine.{LedgerLine}
+use Rattle.run_ledger.specs.declared.record.Record.TheVariants as records
+use Rattle.run_ledger.specs.Conditions.{both_up, crash_free, first_false, is_next, unlawful}
+use Rattle.run_ledger.specs.Ledgers.{LedgerState}
+use Rattle.run_ledger.specs.Lines.{fault_of}
+use Rattle.conductor_core.specs.declared.wants.Phase.{Phase}
+use Rattle.conductor_core.specs.declared.wants.Phase.TheVariants as phases
+use Rattle.conductor_core.specs.Conductors.{ConductorState}
+use Rattle.conductor_core.specs.Tells.{IsKept, verdict_at}
+use Rattle.conductor_core.specs.Verdicts.{difference_in, least_difference, least_from}
+use Rattle.world_core.specs.Sound.{Sound}
+use Rattle.world_core.specs.Still.{Afloat, IsPhase, IsPlain, plain_stamp}
+use Rattle.world_core.specs.Worlds.{Setting, WorldState}
+
+-- ---- equal verdicts name nobody
+
+no_least : (all : List (Option Verdict)) → ((j : ℕ) (v : Verdict) → slice_index_or all j None ≡ Some v → v ≡ verdicts.Equal) → least_from None all ≡ None
+no_least [] each = refl
+no_least (x ∷ more) each = ap (λ f. least_from f more) (by x (each 0)) ∙ no_least more (λ j v h. each (suc j) v h)
+  where
+    by : (x : Option Verdict) → ((v : Verdict) → x ≡ Some v → v ≡ verdicts.Equal) → difference_in x ≡ None
+    by None its = refl
+    by (Some v) its = ap (λ (v : Verdict). difference_in (Some v)) (its v refl)
+
+no_lines : (l : LedgerState) (script : List Fault) → map fault_of l.lines ≡ script → script ≡ [] → l.lines ≡ []
+no_lines l script is none = by l.lines (is ∙ none)
+  where
+    by : (lines : List LedgerLine) → map fault_of lines ≡ [] → lines ≡ []
+    by [] h = refl
+    by (x ∷ more) h = absurd (let q : fault_of x ∷ map fault_of more ≡ [] = h in cc)
+
+module _ (s : Setting) (o : Options) (plain : IsPlain s o) (w : WorldState) (sound : Sound s o w) (afloat : Afloat s w) (equal : EqualExactly) (k : ℕ) (agreed : w.conductor.phase ≡ phases.Agreed k) where
+  abbrev c : ConductorState
+  c = w.conductor
+
+  -- both replicas run under no line
+  same_lines : lines_of s.script c.first ≡ lines_of s.script c.second
+  same_lines = ap (lines_of s.script) afloat.beside.first ∙ ap (lines_of s.script) (sym afloat.beside.second)
+
+  each_equal : (j : ℕ) (v : Verdict) → verdict_at c.verdicts j ≡ Some v → v ≡ verdicts.Equal
+  each_equal j v there =
+      let kept : IsKept s.plan s.script s.place c.first c.second (phases.Agreed k) c.pieces j v = subst (λ p. IsKept s.plan s.script s.place c.first c.second p c.pieces j v) agreed (sound.conductor.kept j v there) in
+      kept.compares ∙ (equal s.plan (node_records s.plan s.place (lines_of s.script c.first) k j) (node_records s.plan s.place (lines_of s.script c.second) k j)).1 (ap (λ l. node_records s.plan s.place l k j) same_lines)
+
+  -- no element differs
+  pub no_difference : least_difference c.verdicts ≡ None
+  no_difference = no_least c.verdicts each_equal
+
+  -- ---- the ledger takes the checkpoint
+
+  next_is : is_next c.ledger k ≡ true
+  next_is = by w.cut.round (subst (λ p. IsPhase c w.cut.floor p w.cut.round) agreed afloat.beside.phase)
+    where
+      by : (round : Round) → IsPhase c w.cut.floor (phases.Agreed k) round → is_next c.ledger k ≡ true
+      by (rounds.Quiet r) h = absurd h
+      by (rounds.Gather r f) h = absurd h
+      by (rounds.Agreed r j) h = ap (is_next c.ledger) h.0 ∙ h.1
+
+  no_crash : crash_free c.ledger k ≡ true
+  no_crash = subst (λ lines. crash_free (record c.ledger { lines = lines }) k ≡ true) (sym (no_lines c.ledger s.script sound.conductor.recorded.faults plain.none)) refl
+
+  all_hold : (a b d e : Bool) → a ≡ false → b ≡ true → d ≡ true → e ≡ true → first_false 1 (not a ∷ b ∷ d ∷ e ∷ []) ≡ None
+  all_hold false true true true ha hb hd he = refl
+  all_hold true b d e ha hb hd he = absurd (let q : true ≡ false = ha in cc)
+  all_hold false false d e ha hb hd he = absurd (let q : false ≡ true = hb in cc)
+  all_hold false true false e ha hb hd he = absurd (let q : false ≡ true = hd in cc)
+  all_hold false true true false ha hb hd he = absurd (let q : false ≡ true = he in cc)
+
+  pub accept_lawful : unlawful c.ledger (records.Accept k) ≡ None
+  accept_lawful = all_hold c.ledger.ended (both_up c.ledger) (is_next c.ledger k) (crash_free c.ledger k) afloat.beside.unended afloat.beside.up next_is no_crash
