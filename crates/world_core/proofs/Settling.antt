@@ -19,7 +19,11 @@ use Rattle.run_ledger.specs.Ledgers.{LedgerState}
 use Rattle.run_ledger.specs.Lines.{fault_of}
 use Rattle.conductor_core.specs.declared.wants.Phase.{Phase}
 use Rattle.conductor_core.specs.declared.wants.Phase.TheVariants as phases
-use Rattle.conductor_core.specs.Conductors.{ConductorState}
+use Rattle.conductor_core.specs.Conductors.{ConductorState, Heard, accepted_by, conductor_did, finished, finished_by, gone_on, moved, quieted, settled_by, settled_in, wanted, with_mark, with_record}
+use Rattle.checkpoint_store.specs.Assembled.{assembled}
+use Rattle.conductor_core.specs.declared.ending.Outcome.TheVariants as outcomes
+use Rattle.conductor_core.specs.declared.wants.CutAnswer.TheVariants as answers
+use Rattle.conductor_core.specs.declared.wants.CutMove.TheVariants as moves
 use Rattle.conductor_core.specs.Tells.{IsKept, verdict_at}
 use Rattle.conductor_core.specs.Verdicts.{difference_in, least_difference, least_from}
 use Rattle.world_core.specs.Sound.{Sound}
@@ -43,7 +47,7 @@ no_lines l script is none = by l.lines (is ∙ none)
     by [] h = refl
     by (x ∷ more) h = absurd (let q : fault_of x ∷ map fault_of more ≡ [] = h in cc)
 
-module _ (s : Setting) (o : Options) (plain : IsPlain s o) (w : WorldState) (sound : Sound s o w) (afloat : Afloat s w) (equal : EqualExactly) (k : ℕ) (agreed : w.conductor.phase ≡ phases.Agreed k) where
+module _ (s : Setting) (o : Options) (plain : IsPlain s o) (w : WorldState) (sound : Sound s o w) (afloat : Afloat s w) (equal : EqualExactly) (k : ℕ) (agreed : w.conductor.phase ≡ phases.Agreed k) (wants : wanted w.conductor ≡ moves.Quiet) where
   abbrev c : ConductorState
   c = w.conductor
 
@@ -82,3 +86,23 @@ module _ (s : Setting) (o : Options) (plain : IsPlain s o) (w : WorldState) (sou
 
   pub accept_lawful : unlawful c.ledger (records.Accept k) ≡ None
   accept_lawful = all_hold c.ledger.ended (both_up c.ledger) (is_next c.ledger k) (crash_free c.ledger k) afloat.beside.unended afloat.beside.up next_is no_crash
+
+  -- ---- it orders all slots to take their pieces, unless the run is over
+
+  abbrev pub bytes : List ℕ
+  bytes = assembled s.plan s.place (quieted c).pieces
+
+  abbrev pub goes_on : Heard
+  goes_on = gone_on (with_mark bytes (with_record (records.Accept k) (quieted c)))
+
+  pub settles : conductor_did s.plan s.place answers.Nothing c ≡ finished bytes goes_on
+  unfolding conductor_did
+  settles = ap (λ m. moved s.plan s.place m answers.Nothing c) wants ∙ ap (λ p. settled_in s.plan s.place p c) agreed ∙ ap (λ e. settled_by s.plan s.place k e (quieted c)) no_difference ∙ ap (λ r. accepted_by r s.plan s.place k (quieted c)) accept_lawful
+
+  -- where the run isn't over
+  pub settles_on : (conductor_did s.plan s.place answers.Nothing c).conductor.outcome ≡ None → conductor_did s.plan s.place answers.Nothing c ≡ goes_on
+  settles_on going = settles ∙ by (unlawful goes_on.conductor.ledger records.Done) (ap (λ (h : Heard). h.conductor.outcome) (sym settles) ∙ going)
+    where
+      by : (r : Option ℕ) → (finished_by r bytes goes_on).conductor.outcome ≡ None → finished_by r bytes goes_on ≡ goes_on
+      by (Some which) h = refl
+      by None h = absurd (let q : Some outcomes.Done ≡ None = h in cc)
