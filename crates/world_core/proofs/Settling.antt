@@ -1,6 +1,8 @@
 -- What the conductor makes of verdicts in a run without faults: it accepts the checkpoint.
-use Rattle.std.proofs.Common.{◌≡◌, ℕ, zero, suc, Bool, true, false, cond, List, [], ◌∷◌, refl, ap, sym, ◌∙◌, subst, Option, Some, None}
-use Rattle.std.specs.Prelude.{◌↔◌, map, not, slice_index_or}
+use Rattle.std.proofs.Common.{◌≡◌, ℕ, ◌+◌, ◌<◌, ◌≤◌, arith, zero, suc, Bool, true, false, cond, List, [], ◌∷◌, refl, ap, sym, ◌∙◌, subst, Option, Some, None}
+use Rattle.std.specs.Prelude.{◌↔◌, ◌==◌, ◌&&◌, map, nat_le, nat_lt, not, slice_index_or}
+use Rattle.std.proofs.lemmas.Bool.{leb-true, ltb-true}
+use Rattle.std.proofs.lemmas.Bool.Decides.{nat_tests}
 use Rattle.chare_base.specs.declared.options.Options.{Options}
 use Rattle.chare_base.specs.declared.plan.ElementId.{ElementId}
 use Rattle.fault_script.specs.declared.fault.Fault.{Fault}
@@ -14,21 +16,26 @@ use Rattle.iteration_agree.specs.declared.round.Round.{Round}
 use Rattle.iteration_agree.specs.declared.round.Round.TheVariants as rounds
 use Rattle.run_ledger.specs.declared.line.LedgerLine.{LedgerLine}
 use Rattle.run_ledger.specs.declared.record.Record.TheVariants as records
-use Rattle.run_ledger.specs.Conditions.{both_up, crash_free, first_false, is_next, unlawful}
+use Rattle.run_ledger.specs.Conditions.{both_up, crash_free, due, first_false, is_next, unlawful}
 use Rattle.run_ledger.specs.Ledgers.{LedgerState}
 use Rattle.run_ledger.specs.Lines.{fault_of}
 use Rattle.conductor_core.specs.declared.wants.Phase.{Phase}
 use Rattle.conductor_core.specs.declared.wants.Phase.TheVariants as phases
-use Rattle.conductor_core.specs.Conductors.{ConductorState, Heard, accepted_by, conductor_did, finished, finished_by, gone_on, moved, quieted, settled_by, settled_in, wanted, with_mark, with_record}
+use Rattle.conductor_core.specs.Conductors.{ConductorState, Heard, accepted_by, conductor_did, finished, finished_by, gone_on, lines_now, moved, quieted, settled_by, settled_in, wanted, with_mark, with_record}
 use Rattle.checkpoint_store.specs.Assembled.{assembled}
 use Rattle.conductor_core.specs.declared.ending.Outcome.TheVariants as outcomes
 use Rattle.conductor_core.specs.declared.wants.CutAnswer.TheVariants as answers
 use Rattle.conductor_core.specs.declared.wants.CutMove.TheVariants as moves
 use Rattle.conductor_core.specs.Tells.{IsKept, verdict_at}
 use Rattle.conductor_core.specs.Verdicts.{difference_in, least_difference, least_from}
+use Rattle.conductor_core.specs.Orders.{relined}
 use Rattle.world_core.specs.Sound.{Sound}
-use Rattle.world_core.specs.Still.{Afloat, IsPhase, IsPlain, plain_stamp}
+use Rattle.world_core.specs.Still.{Afloat, Beside, IsPhase, IsPlain, plain_stamp}
 use Rattle.world_core.specs.Worlds.{Setting, WorldState}
+use Rattle.world_core.proofs.Due.{first, second}
+use Rattle.iteration_agree.specs.Cuts.{quieted as cut_quieted}
+use Rattle.run_ledger.specs.Lines.{accepted as accepted_line}
+use Rattle.iteration_agree.specs.Rounds.{number}
 
 -- ---- equal verdicts name nobody
 
@@ -106,3 +113,59 @@ module _ (s : Setting) (o : Options) (plain : IsPlain s o) (w : WorldState) (sou
       by : (r : Option ℕ) → (finished_by r bytes goes_on).conductor.outcome ≡ None → finished_by r bytes goes_on ≡ goes_on
       by (Some which) h = refl
       by None h = absurd (let q : Some outcomes.Done ≡ None = h in cc)
+
+  -- ---- the conductor beside the agreement, in the next round
+
+  module _ (going : (conductor_did s.plan s.place answers.Nothing c).conductor.outcome ≡ None) where
+    abbrev now : ConductorState
+    now = goes_on.conductor
+
+    behind : c.ledger.base < k
+    behind = ltb-true c.ledger.base k (second (nat_le (due c.ledger) k) (nat_lt c.ledger.base k) (first (nat_le (due c.ledger) k && nat_lt c.ledger.base k) (nat_le k c.ledger.iterations) next_is))
+
+    within : k ≤ c.ledger.iterations
+    within = leb-true k c.ledger.iterations (second (nat_le (due c.ledger) k && nat_lt c.ledger.base k) (nat_le k c.ledger.iterations) next_is)
+
+    -- it isn't the last iteration, else the run was over
+    pub short : k < s.plan.iterations
+    short = by (k == c.ledger.iterations) refl
+      where
+        over : (a b d : Bool) → a ≡ false → b ≡ true → d ≡ true → first_false 1 (not a ∷ b ∷ d ∷ []) ≡ None
+        over false true true ha hb hd = refl
+        over true b d ha hb hd = absurd (let q : true ≡ false = ha in cc)
+        over false false d ha hb hd = absurd (let q : false ≡ true = hb in cc)
+        over false true false ha hb hd = absurd (let q : false ≡ true = hd in cc)
+
+        job : c.ledger.iterations ≡ s.plan.iterations
+        job = sound.conductor.recorded.job
+
+        by : (b : Bool) → (k == c.ledger.iterations) ≡ b → k < s.plan.iterations
+        by false h = let a = within in let j = job in grind (arith, nat_tests, h, a, j)
+        by true h =
+            let lawful : unlawful now.ledger records.Done ≡ None = over c.ledger.ended (k == c.ledger.iterations) (both_up c.ledger) afloat.beside.unended h afloat.beside.up in
+            let ends : Some outcomes.Done ≡ None = sym (ap (λ r. (finished_by r bytes goes_on).conductor.outcome) lawful) ∙ sym (ap (λ (h : Heard). h.conductor.outcome) settles) ∙ going in
+            absurd (let q : Some outcomes.Done ≡ None = ends in cc)
+
+    lines_none : c.ledger.lines ≡ []
+    lines_none = no_lines c.ledger s.script sound.conductor.recorded.faults plain.none
+
+    first_is : now.first ≡ plain_stamp 0
+    first_is = ap (λ lines. relined (lines_now 0 (record (with_record (records.Accept k) (quieted c)) { ledger = record now.ledger { lines = map (accepted_line k) lines } })) c.first) lines_none ∙ ap (relined (record { 0 = 0 })) afloat.beside.first
+
+    second_is : now.second ≡ plain_stamp 1
+    second_is = ap (λ lines. relined (lines_now 1 (record (with_record (records.Accept k) (quieted c)) { ledger = record now.ledger { lines = map (accepted_line k) lines } })) c.second) lines_none ∙ ap (relined (record { 0 = 0 })) afloat.beside.second
+
+    pub beside_next : Beside s (cut_quieted w.cut) now
+    unfolding cut_quieted
+    beside_next = record {
+      phase = tt;
+      both = afloat.beside.both;
+      counted = let a = afloat.beside.counted in let b = behind in omega (arith, a, b);
+      going = short;
+      every = afloat.beside.every;
+      unended = afloat.beside.unended;
+      up = afloat.beside.up;
+      first = first_is;
+      second = second_is;
+      noted = λ at slot h. absurd (let q : phases.Quiet ≡ phases.Gather = at in cc);
+    }
