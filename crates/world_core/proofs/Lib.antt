@@ -44,3 +44,4 @@ pub mod Marking
 pub mod Agreeing
 pub mod Happening
 pub mod Settling
+pub mod Completing
