@@ -1,26 +1,26 @@
 -- Once the conductor makes a round quiet every slot has packed in it.
 use Rattle.std.proofs.Common.{◌≡◌, ℕ, zero, suc, ◌<◌, ◌≤◌, Bool, true, false, cond, List, [], ◌∷◌, length, refl, ap, sym, ◌∙◌, arith, subst, Option, Some, None, IsSome}
-use Rattle.std.specs.Prelude.{is_some, slice_get, slice_index_or}
+use Rattle.std.specs.Prelude.{IfSome, is_some, slice_get, slice_index_or}
 use Rattle.std.specs.List.{list_all}
 use Rattle.std.proofs.lemmas.Option.{same_Some}
 use Rattle.chare_base.specs.declared.options.Options.{Options}
 use Rattle.iteration_agree.specs.Cuts.{slot_of}
-use Rattle.pup_state.specs.declared.compare.Verdict.{Verdict}
+use Rattle.pup_state.specs.declared.piece.Piece.{Piece}
+use Rattle.node_core.specs.declared.piece.Held.{Held}
+use Rattle.node_core.specs.Mail.{BodyOwes}
 use Rattle.node_core.specs.Nodes.{Body}
-use Rattle.conductor_core.specs.declared.wants.CutMove.{CutMove}
 use Rattle.conductor_core.specs.declared.wants.CutMove.TheVariants as moves
 use Rattle.conductor_core.specs.declared.wants.Phase.{Phase}
 use Rattle.conductor_core.specs.declared.wants.Phase.TheVariants as phases
 use Rattle.conductor_core.specs.Conductors.{ConductorState, move_in, wanted}
 use Rattle.conductor_core.specs.Moves.{slot_named}
-use Rattle.conductor_core.specs.Tells.{verdict_at}
 use Rattle.world_core.specs.Sound.{Sound}
-use Rattle.world_core.specs.Still.{Accepted, Afloat, Committed, Compared, Free, Freed, HasPacked, IsPacked, IsPlain, Packed, SlotAfloat, Stage, present}
+use Rattle.world_core.specs.Still.{Accepted, Afloat, Committed, Compared, Free, Freed, HasPacked, IsPacked, IsPlain, IsThere, OnItsWay, Packed, PairIn, Passes, SlotAfloat, Stage, Unsent, pieces_in, present, present_in}
 use Rattle.world_core.specs.Worlds.{Setting, SlotState, WorldState, number_of, slot_at}
 use Rattle.world_core.proofs.Accepting.{not_earlier}
 use Rattle.world_core.proofs.Due.{first, second}
 use Rattle.world_core.proofs.Lists.{all_got}
-use Rattle.world_core.proofs.Mailing.{IsNamed, found, place_is}
+use Rattle.world_core.proofs.Mailing.{IsNamed, found, place_is, slot_is}
 
 all_there : {A : Type 0} (xs : List (Option A)) (i : ℕ) → list_all is_some xs ≡ true → i < length xs → IsSome (slice_index_or xs i None)
 all_there [] i h less = absurd (omega (arith, less))
@@ -72,3 +72,44 @@ module _ (s : Setting) (o : Options) (plain : IsPlain s o) (w : WorldState) (sou
       by (Committed is) = absurd (never is.fresh)
       by (Freed is) = absurd (never is.fresh)
       by (Accepted is) = absurd (not_earlier s o plain w x.node.slot x here sound afloat is.earlier k agreed)
+
+  at_k : present c ≡ k
+  at_k = ap (λ (p : Phase). present_in c.ledger.base p) agreed
+
+  -- no piece is on its way any more
+  pub none_left : (j : ℕ) → j < s.nodes → (x other : SlotState) (b own : Body) → slot_at s.nodes w.posts.slots (slot_named 0 j) ≡ Some x → slot_at s.nodes w.posts.slots (slot_named 1 j) ≡ Some other → x.node.body ≡ Some b →
+      other.node.body ≡ Some own → pieces_in x.box ≡ []
+  none_left j less x other b own there_x there_other alive_x alive_other = by (subst (λ p. PairIn p other x b own) agreed (afloat.pairs j less x other b own there_x there_other alive_x alive_other))
+    where
+      both : Compared s w j (present c)
+      both = all_compared j less
+
+      held : b.other ≡ Some both.held
+      held = ap (λ (q : Body). q.other) (same_Some b both.first.body (sym alive_x ∙ ap (λ (z : SlotState). z.node.body) (same_Some x both.first.slot (sym there_x ∙ both.first.there)) ∙ both.first.alive)) ∙ both.other
+
+      never : IfSome b.other (λ (held : Held). held.piece.iteration < k) → ⊥
+      never older = let less : both.held.piece.iteration < k = subst (λ q. IfSome q (λ (held : Held). held.piece.iteration < k)) held older in let at = both.at in let q = at_k in omega (arith, less, at, q)
+
+      by : Passes k other x b own → pieces_in x.box ≡ []
+      by (Unsent h) = h.none
+      by (OnItsWay h) = absurd (never h.older)
+      by (IsThere h) = h.none
+
+  -- and no verdict behind the new base
+  pub none_behind : (j i : ℕ) → k < i → Compared s w j i → ⊥
+  none_behind j i less both = by fresh_at
+    where
+      had : HasPacked s w 0 j i
+      had = both.first
+
+      its : SlotAfloat s w.cut c afloat.log had.slot
+      its = all_got (SlotAfloat s w.cut c afloat.log) w.posts.slots (number_of s.nodes (slot_named 0 j)) had.slot afloat.slots (slot_is s.nodes w.posts.slots (slot_named 0 j) had.slot had.there).there
+
+      pays : BodyOwes s.plan s.place (present c) afloat.log had.slot.node had.body
+      pays = subst (λ q. IfSome q (BodyOwes s.plan s.place (present c) afloat.log had.slot.node)) had.alive its.owes
+
+      fresh_at : had.piece.iteration ≡ present c
+      fresh_at = subst (λ f. IfSome f (λ (piece : Piece). piece.iteration ≡ present c)) had.fresh pays.fresh
+
+      by : had.piece.iteration ≡ present c → ⊥
+      by h = let at = had.at in let q = at_k in omega (arith, h, at, q, less)

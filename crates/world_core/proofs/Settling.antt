@@ -1,14 +1,12 @@
 -- What the conductor makes of verdicts in a run without faults: it accepts the checkpoint.
-use Rattle.std.proofs.Common.{◌≡◌, ℕ, ◌+◌, ◌<◌, ◌≤◌, arith, zero, suc, Bool, true, false, cond, List, [], ◌∷◌, refl, ap, sym, ◌∙◌, subst, Option, Some, None}
-use Rattle.std.specs.Prelude.{◌↔◌, ◌==◌, ◌&&◌, map, nat_le, nat_lt, not, slice_index_or}
+use Rattle.std.proofs.Common.{◌≡◌, ℕ, ◌<◌, ◌≤◌, arith, suc, Bool, true, false, List, [], ◌∷◌, refl, ap, sym, ◌∙◌, subst, Option, Some, None}
+use Rattle.std.specs.Prelude.{◌==◌, ◌&&◌, map, nat_le, nat_lt, not, slice_index_or}
 use Rattle.std.proofs.lemmas.Bool.{leb-true, ltb-true}
 use Rattle.std.proofs.lemmas.Bool.Decides.{nat_tests}
 use Rattle.chare_base.specs.declared.options.Options.{Options}
-use Rattle.chare_base.specs.declared.plan.ElementId.{ElementId}
 use Rattle.fault_script.specs.declared.fault.Fault.{Fault}
-use Rattle.letter_post.specs.declared.stamp.Stamp.{Stamp}
 use Rattle.letter_post.specs.Stamps.{lines_of}
-use Rattle.letter_post.specs.Truth.{node_records, node_verdict}
+use Rattle.letter_post.specs.Truth.{node_records}
 use Rattle.pup_state.specs.declared.compare.Verdict.{Verdict}
 use Rattle.pup_state.specs.declared.compare.Verdict.TheVariants as verdicts
 use Rattle.buddy_compare.specs.Laws.{EqualExactly}
@@ -19,7 +17,6 @@ use Rattle.run_ledger.specs.declared.record.Record.TheVariants as records
 use Rattle.run_ledger.specs.Conditions.{both_up, crash_free, due, first_false, is_next, unlawful}
 use Rattle.run_ledger.specs.Ledgers.{LedgerState}
 use Rattle.run_ledger.specs.Lines.{fault_of}
-use Rattle.conductor_core.specs.declared.wants.Phase.{Phase}
 use Rattle.conductor_core.specs.declared.wants.Phase.TheVariants as phases
 use Rattle.conductor_core.specs.Conductors.{ConductorState, Heard, accepted_by, conductor_did, finished, finished_by, gone_on, lines_now, moved, quieted, settled_by, settled_in, wanted, with_mark, with_record}
 use Rattle.checkpoint_store.specs.Assembled.{assembled}
@@ -35,7 +32,6 @@ use Rattle.world_core.specs.Worlds.{Setting, WorldState}
 use Rattle.world_core.proofs.Due.{first, second}
 use Rattle.iteration_agree.specs.Cuts.{quieted as cut_quieted}
 use Rattle.run_ledger.specs.Lines.{accepted as accepted_line}
-use Rattle.iteration_agree.specs.Rounds.{number}
 
 -- ---- equal verdicts name nobody
 
