@@ -66,7 +66,6 @@ pieces_both (letters.Resume stamp ∷ xs) ys = pieces_both xs ys
 pieces_both (letters.Died stamp slot line ∷ xs) ys = pieces_both xs ys
 pieces_both (letters.Stop ∷ xs) ys = pieces_both xs ys
 
-
 pub append_nil : {A : Type 0} (xs : List A) → xs ++ [] ≡ xs
 append_nil [] = refl
 append_nil (x ∷ xs) = ap (λ l. x ∷ l) (append_nil xs)
@@ -215,6 +214,7 @@ module _ (s : Setting) (w : WorldState) (slot : SlotId) (a : Acted) (name_is : a
           which : ((name ≡ slot) × (f.x ≡ a.slot)) ⊎ (slot_at s.nodes w.posts.slots name ≡ Some f.x) → After name y
           which (inl q) = absurd (apart q.0)
           which (inr q) = inr (apart, record { x = f.x; there = q; put = f.put })
+
 -- a slot stands at each name
 pub stands_there : (s : Setting) (o : Options) (w : WorldState) → Sound s o w → (r j : ℕ) → r ≤ 1 → j < s.nodes → (y : SlotState) × (slot_at s.nodes w.posts.slots (slot_named r j) ≡ Some y)
 stands_there s o w sound r j replica node =
@@ -341,6 +341,7 @@ module _ (s : Setting) (o : Options) (w : WorldState) (slot : SlotId) (x : SlotS
           inl
           (subst (In sent.letter) (sym desk_is)
           (in_right sent.letter w.posts.desk (desk_of a.out) (desk sent.letter (subst (λ to. In sent.letter (to_desk to sent.letter (desk_of more))) (sym at) (inl refl)))))
+
   -- ---- packed slots
 
   record Next (r j k : ℕ) (had : HasPacked s w r j k) : Type 0 where

@@ -31,7 +31,6 @@ use Rattle.node_core.specs.Gatherings.{tallied}
 use Rattle.fault_script.specs.declared.fault.Fault.{Fault}
 use Rattle.letter_post.specs.Orders.{is_mail, order_of, Order}
 use Rattle.node_core.specs.Nodes.{node_heard_as}
-
 use Rattle.world_core.proofs.Lists.{all_joined}
 
 -- a letter of the elements' own: no piece, no verdict and no order

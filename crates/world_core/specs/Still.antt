@@ -1,10 +1,9 @@
 -- Worlds in which nothing is lost, and worlds that end: runs without faults, round by round.
-use Rattle.std.specs.Prelude.{◌≡◌, ℕ, ◌+◌, ◌<◌, ◌≤◌, ◌⊎◌, if◌then◌else◌, true, false, List, [], ◌∷◌, length, Option, Some, None, IfSome, IsSome}
+use Rattle.std.specs.Prelude.{◌≡◌, ℕ, ◌<◌, ◌≤◌, ◌⊎◌, if◌then◌else◌, true, false, List, [], ◌∷◌, length, Some, None, IfSome, IsSome}
 use Rattle.std.specs.List.{AllByRecursion}
 use Rattle.chare_base.specs.declared.options.Options.{Options}
 use Rattle.chare_base.specs.declared.slots.LineSet.{LineSet}
 use Rattle.chare_base.specs.declared.slots.SlotId.{SlotId}
-use Rattle.chare_base.specs.Elements.{elements}
 use Rattle.iteration_agree.specs.Cuts.{CutState, slot_of}
 use Rattle.iteration_agree.specs.Rounds.{number}
 use Rattle.iteration_agree.specs.declared.round.Round.{Round}
