@@ -24,14 +24,14 @@ use Rattle.world_core.proofs.Sides.{Stands}
 
 -- ---- slots by their names
 
-pub same_slot : (a b : SlotId) → (a.replica == b.replica && a.node == b.node) ≡ true → a ≡ b
+same_slot : (a b : SlotId) → (a.replica == b.replica && a.node == b.node) ≡ true → a ≡ b
 same_slot a b h =
     let r : a.replica ≡ b.replica = eqb-true a.replica b.replica (first (a.replica == b.replica) (a.node == b.node) h) in
     let n : a.node ≡ b.node = eqb-true a.node b.node (second (a.replica == b.replica) (a.node == b.node) h) in
     let one : a ≡ record { replica = b.replica; node = a.node } = ap (λ m. record { replica = m; node = a.node }) r in
     one ∙ ap (λ m. record { replica = b.replica; node = m }) n
 
-pub own_name : (a : SlotId) → (a.replica == a.replica && a.node == a.node) ≡ true
+own_name : (a : SlotId) → (a.replica == a.replica && a.node == a.node) ≡ true
 own_name a = ap (λ b. b && a.node == a.node) (eq-eqb a.replica a.replica refl) ∙ eq-eqb a.node a.node refl
 
 -- a slot where its name says

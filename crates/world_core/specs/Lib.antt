@@ -4,4 +4,3 @@ pub mod Steps
 pub mod Sound
 pub mod Bounds
 pub mod Drills
-pub mod Still

@@ -2,14 +2,11 @@
 
 ghost use Rattle.world_core.specs.Drills.{DrillsWait};
 ghost use Rattle.world_core.specs.Sound.{EveryEventKeeps, EveryWorldIsSound, EveryWorldWaits, SoundServes, StartIsSound};
-ghost use Rattle.world_core.specs.Still.{NoStandstill, StartIsAfloat};
 
-use chare_base::laws::waits;
-use conductor_core::laws::{conductors_tell, moves_fit_the_round};
+use conductor_core::laws::conductors_tell;
 use iteration_agree::laws::{agreed_is_not_begun, cuts_hold, moves_are_local};
 use letter_post::laws::chains_grow;
-use node_core::laws::{nodes_keep, nodes_move};
-use object_steps::laws::ready_tells;
+use node_core::laws::nodes_keep;
 
 /// Whatever events happen, in whatever order, enabled or not: each node keeps the definition under its last order, each
 /// letter in an inbox is true, the orders of an inbox follow one another, the agreement's invariant holds, no element has
@@ -42,22 +39,4 @@ pub fn agreed_waits()
 {
     worlds_are_sound();
     agreed_is_not_begun();
-}
-
-/// Where no fault is to come nothing is lost at the start.
-pub fn worlds_start_afloat()
-    ensures { StartIsAfloat }
-{}
-
-/// Without faults a world in which nothing is lost stands still only once its run has ended. While a round is quiet all
-/// elements have come to the job's end, and the conductor opens a round. While it gathers caps every slot has reported one.
-/// Once an iteration is agreed all elements have come to it, each slot has packed there, and the conductor has every
-/// verdict: of elements that can't run, one is the farthest back, and what it waits for was sent and came.
-pub fn no_standstill()
-    ensures { NoStandstill }
-{
-    waits();
-    ready_tells();
-    nodes_move();
-    moves_fit_the_round();
 }
