@@ -14,6 +14,7 @@ pub mod Ranking
 pub mod Bodies
 pub mod Bits
 pub mod Messages
+pub mod Waking
 pub mod Within
 pub mod Parts
 pub mod Pasts

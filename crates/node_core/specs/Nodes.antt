@@ -20,7 +20,7 @@ use Rattle.chare_eval.specs.declared.effects.Outgoing.TheVariants as outgoing
 use Rattle.chare_eval.specs.Stage.{one_value}
 use Rattle.fault_script.specs.declared.fault.Fault.{Fault}
 use Rattle.ref_messages.specs.declared.key.RefKey.{RefKey}
-use Rattle.object_steps.specs.Objects.{Progress, key_of}
+use Rattle.object_steps.specs.Objects.{Progress, awaits, key_of}
 use Rattle.letter_post.specs.declared.letter.BoxId.TheVariants as boxes
 use Rattle.letter_post.specs.declared.letter.Letter.{Letter}
 use Rattle.letter_post.specs.declared.letter.Letter.TheVariants as letters
@@ -260,6 +260,11 @@ can_run_by p limit None = false
 can_run_by p limit (Some o) = can_run p limit o
 
 -- the iterations that an object has completed, where it is between two
+-- whether it awaits a message; None where no element has the seat
+abbrev pub awaits_by : Plan → ℕ → EntryId → Option Progress → Bool
+awaits_by p k entry None = false
+awaits_by p k entry (Some o) = awaits p o k entry.0
+
 abbrev pub completed_by : Option Progress → Option ℕ
 completed_by None = None
 completed_by (Some o) = if is_none o.step then Some o.done else None

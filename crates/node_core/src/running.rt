@@ -2,11 +2,12 @@
 
 ghost use Rattle.std.specs.Prelude.{◌≡◌, length, slice_get};
 ghost use Rattle.node_core.specs.Keeps.{Fitted};
-ghost use Rattle.node_core.specs.Nodes.{can_run_by, completed_by, element_in, objects_of};
+ghost use Rattle.node_core.specs.Nodes.{awaits_by, can_run_by, completed_by, element_in, objects_of};
 ghost use Rattle.node_core.specs.Rosters.{seat_of};
 
 use crate::node::Node;
 use crate::object::can_run;
+use chare_base::message::EntryId;
 use chare_base::plan::{ElementId, Plan};
 
 impl Node {
@@ -51,6 +52,21 @@ impl Node {
             Some(body) => match body.objects.get(seat) {
                 None => false,
                 Some(object) => can_run(plan, limit, object),
+            },
+        }
+    }
+
+    /// Whether the element of a seat is in this iteration, and a part of its step that isn't done needs the message of this
+    /// entry; false where the seat is nobody's.
+    pub fn awaits_seat(&self, plan: &Plan, iteration: u64, entry: EntryId, seat: usize) -> bool
+        requires { Fitted plan.now self.now }
+        ensures { result ≡ awaits_by plan.now iteration entry (slice_get (objects_of self.now.body) seat) }
+    {
+        match self.live() {
+            None => false,
+            Some(body) => match body.objects.get(seat) {
+                None => false,
+                Some(object) => object.awaits(plan, iteration, entry),
             },
         }
     }

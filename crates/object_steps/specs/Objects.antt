@@ -1,11 +1,12 @@
 -- An element as it goes through its iterations.
-use Rattle.std.specs.Prelude.{◌≡◌, ℕ, zero, suc, ◌<◌, ◌≤◌, ◌==◌, ◌&&◌, Bool, true, false, if◌then◌else◌, List, [], ◌∷◌, length, Option, Some, None, IfSome, is_some, slice_set}
+use Rattle.std.specs.Prelude.{◌≡◌, ℕ, zero, suc, ◌<◌, ◌≤◌, ◌==◌, ◌&&◌, ◌||◌, not, Bool, true, false, if◌then◌else◌, List, [], ◌∷◌, length, Option, Some, None, IfSome, is_some, slice_set}
 use Rattle.std.specs.Option.{option_or}
 use Rattle.chare_base.specs.declared.cells.Cells.{Cells}
 use Rattle.chare_base.specs.declared.message.Need.{Need}
 use Rattle.chare_base.specs.declared.message.Need.TheVariants as needs
 use Rattle.chare_base.specs.declared.message.Payload.{Payload}
 use Rattle.chare_base.specs.declared.message.Port.{Port}
+use Rattle.chare_base.specs.declared.message.Port.TheVariants as ports
 use Rattle.chare_base.specs.declared.plan.ElementId.{ElementId}
 use Rattle.chare_base.specs.declared.plan.Part.{Part}
 use Rattle.chare_base.specs.declared.plan.Place.{Place}
@@ -97,6 +98,25 @@ ready_at p o (Some s) = ready_from (arrived p o) s o.parts 0 None (parts_at p o.
 
 unfoldable pub ready : Plan → Progress → Ready
 ready p o = ready_at p o o.step
+
+-- whether a part needs the message of an entry
+abbrev pub needs_entry : ℕ → Need → Bool
+needs_entry entry needs.Nothing = false
+needs_entry entry (needs.Port (ports.Entry e)) = e.0 == entry
+needs_entry entry (needs.Port (ports.Total reduction)) = false
+
+-- whether one of these parts, the first of which has number n, isn't done and needs it
+abbrev pub awaited_from : ℕ → List Bool → ℕ → List Part → Bool
+awaited_from entry done n [] = false
+awaited_from entry done n (part ∷ more) = not (is_done done n) && needs_entry entry part.need || awaited_from entry done (suc n) more
+
+abbrev pub awaits_at : Plan → Progress → ℕ → ℕ → Option ℕ → Bool
+awaits_at p o iteration entry None = false
+awaits_at p o iteration entry (Some s) = iteration == o.done && awaited_from entry o.parts 0 (parts_at p o.element.0 s)
+
+-- whether an element is in an iteration and a part of its step that isn't done needs the message of an entry
+abbrev pub awaits : Plan → Progress → ℕ → ℕ → Bool
+awaits p o iteration entry = awaits_at p o iteration entry o.step
 
 -- ---- what each call makes of it
 

@@ -6,12 +6,12 @@ ghost use Rattle.chare_eval.specs.Stage.{given};
 ghost use Rattle.ref_messages.specs.Refusal.{Takes, Refuses};
 ghost use Rattle.chare_base.specs.declared.plan.Plan.{Plan};
 ghost use Rattle.object_steps.specs.declared.ready.Ready.TheVariants as ready_as;
-ghost use Rattle.object_steps.specs.Objects.{Fits, advanced, all_done, arrived_at, begun, gone_on, mailed, ran, ready, started, struck, taken};
+ghost use Rattle.object_steps.specs.Objects.{Fits, advanced, all_done, arrived_at, awaits, begun, gone_on, mailed, ran, ready, started, struck, taken};
 
-use crate::ready::{Ready, Standpoint, arrived, chosen, is_done};
+use crate::ready::{Ready, Standpoint, arrived, awaited, chosen, is_done};
 use chare_base::cells::Cells;
 use chare_base::memory::Memory;
-use chare_base::message::{Need, Payload};
+use chare_base::message::{EntryId, Need, Payload};
 use chare_base::plan::{ElementId, Part, Place, Plan, Spot};
 use chare_eval::block::run_part;
 use chare_eval::effects::Effects;
@@ -120,6 +120,21 @@ impl Object {
                 chosen(plan, at, step, &self.parts, parts)
             }
             None => Ready::AtTop,
+        }
+    }
+
+    /// Whether the element is in this iteration, and a part of its step that isn't done needs the message of this entry. It
+    /// looks for no message: one that came to an element that waits lets a part run exactly where the element awaited it.
+    pub fn awaits(&self, plan: &Plan, iteration: u64, entry: EntryId) -> bool
+        requires { Fits plan.now self.now }
+        ensures { result ≡ awaits plan.now self.now iteration entry.0 }
+    {
+        match self.step {
+            Some(step) => {
+                let parts = parts_at(plan, self.element, self.place, step);
+                iteration == self.done && awaited(entry, &self.parts, parts)
+            }
+            None => false,
         }
     }
 

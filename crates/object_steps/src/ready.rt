@@ -4,9 +4,9 @@ ghost use Rattle.std.specs.Prelude.{◌≡◌, ◌<◌, ◌≤◌, length, None}
 ghost use Rattle.chare_base.specs.Elements.{elements, place_of};
 ghost use Rattle.chare_base.specs.Ports.{port_needed};
 ghost use Rattle.chare_eval.specs.Inside.{is_done};
-ghost use Rattle.object_steps.specs.Objects.{arrived_at, can_run, ready_from};
+ghost use Rattle.object_steps.specs.Objects.{arrived_at, awaited_from, can_run, needs_entry, ready_from};
 
-use chare_base::message::{Need, Payload, Port, Source};
+use chare_base::message::{EntryId, Need, Payload, Port, Source};
 use chare_base::plan::{ElementId, Part, Place, Plan, Spot};
 use ref_messages::key::RefKey;
 use ref_messages::queue::RefQueue;
@@ -60,6 +60,29 @@ pub(crate) fn chosen(
     match missing {
         Some(port) => Ready::Await { port },
         None => Ready::AtTop,
+    }
+}
+
+// Whether one of a step's parts that aren't done needs the message of an entry.
+pub(crate) fn awaited(entry: EntryId, done: &[bool], parts: &[Part]) -> bool
+    requires { length parts.now ≤ 8 }
+    ensures { result ≡ awaited_from entry.0 done.now 0 parts.now }
+{
+    for (i, part) in parts.iter().enumerate() {
+        if !is_done(done, i) && needs_entry(entry, part.need) {
+            return true;
+        }
+    }
+    false
+}
+
+fn needs_entry(entry: EntryId, need: Need) -> bool
+    ensures { result ≡ needs_entry entry.0 need }
+{
+    match need {
+        Need::Nothing => false,
+        Need::Port(Port::Entry(e)) => e.0 == entry.0,
+        Need::Port(Port::Total(_)) => false,
     }
 }
 

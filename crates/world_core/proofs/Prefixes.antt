@@ -30,18 +30,38 @@ set_length (x ∷ more) zero r = refl
 set_length (x ∷ more) (suc j) r = ap suc (set_length more j r)
 
 -- a seat is told again: none before it, and none before where the search begins, can run
-pub set_clear : (all new : List Readiness) (from seat : ℕ) (r : Readiness) → new ≡ slice_set all seat r → first_able 0 (take from all) ≡ None → first_able 0 (take (min from seat) new) ≡ None
+set_clear : (all new : List Readiness) (from seat : ℕ) (r : Readiness) → new ≡ slice_set all seat r → first_able 0 (take from all) ≡ None → first_able 0 (take (min from seat) new) ≡ None
 set_clear all new from seat r is none =
     ap (λ rs. first_able 0 (take (min from seat) rs)) is ∙ ap (first_able 0) (set_beyond all (min from seat) seat r (omega arith)) ∙ none_before all from (min from seat) (omega arith) none
 
-pub set_within : (all new : List Readiness) (from seat : ℕ) (r : Readiness) → new ≡ slice_set all seat r → from ≤ length all → min from seat ≤ length new
+set_within : (all new : List Readiness) (from seat : ℕ) (r : Readiness) → new ≡ slice_set all seat r → from ≤ length all → min from seat ≤ length new
 set_within all new from seat r is h = omega (arith, ap length is, set_length all seat r, h)
 
-pub clear_at : (all new : List Readiness) (from seat least : ℕ) (r : Readiness) → least ≡ min from seat → new ≡ slice_set all seat r → first_able 0 (take from all) ≡ None → first_able 0 (take least new) ≡ None
-clear_at all new from seat least r at is none = ap (λ m. first_able 0 (take m new)) at ∙ set_clear all new from seat r is none
+-- one that can't run leaves none before where the search begins
+set_unable : (k : ℕ) (all : List Readiness) (i j : ℕ) (r : Readiness) → is_able r ≡ false → first_able k (take i all) ≡ None → first_able k (take i (slice_set all j r)) ≡ None
+set_unable k all zero j r unable none = refl
+set_unable k [] (suc i) j r unable none = refl
+set_unable k (x ∷ more) (suc i) zero r unable none = ap (λ b. cond b (Some k) (first_able (suc k) (take i more))) unable ∙ rest (is_able x) none
+  where
+    rest : (b : Bool) → cond b (Some k) (first_able (suc k) (take i more)) ≡ None → first_able (suc k) (take i more) ≡ None
+    rest true none = absurd (let q : Some k ≡ None = none in cc)
+    rest false none = none
+set_unable k (x ∷ more) (suc i) (suc j) r unable none = by (is_able x) none (set_unable (suc k) more i j r unable)
+  where
+    by : (b : Bool) → cond b (Some k) (first_able (suc k) (take i more)) ≡ None → (first_able (suc k) (take i more) ≡ None → first_able (suc k) (take i (slice_set more j r)) ≡ None) →
+        cond b (Some k) (first_able (suc k) (take i (slice_set more j r))) ≡ None
+    by true none rest = absurd (let q : Some k ≡ None = none in cc)
+    by false none rest = rest none
 
-pub within_at : (all new : List Readiness) (from seat least : ℕ) (r : Readiness) → least ≡ min from seat → new ≡ slice_set all seat r → from ≤ length all → least ≤ length new
-within_at all new from seat least r at is h = omega (arith, at, set_within all new from seat r is h)
+pub clear_at : (all new : List Readiness) (from seat least : ℕ) (r : Readiness) (able : Bool) → able ≡ is_able r → least ≡ cond able (min from seat) from → new ≡ slice_set all seat r → first_able 0 (take from all) ≡ None →
+    first_able 0 (take least new) ≡ None
+clear_at all new from seat least r true is at told none = ap (λ m. first_able 0 (take m new)) at ∙ set_clear all new from seat r told none
+clear_at all new from seat least r false is at told none =
+    ap (λ m. first_able 0 (take m new)) at ∙ ap (λ rs. first_able 0 (take from rs)) told ∙ set_unable 0 all from seat r (sym is) none
+
+pub within_at : (all new : List Readiness) (from seat least : ℕ) (r : Readiness) (able : Bool) → least ≡ cond able (min from seat) from → new ≡ slice_set all seat r → from ≤ length all → least ≤ length new
+within_at all new from seat least r true at is h = omega (arith, at, set_within all new from seat r is h)
+within_at all new from seat least r false at is h = omega (arith, at, ap length is, set_length all seat r, h)
 
 -- a seat that isn't there changes nothing
 pub set_nowhere : (all : List Readiness) (seat : ℕ) (r : Readiness) → length all ≤ seat → slice_set all seat r ≡ all

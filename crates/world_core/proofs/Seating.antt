@@ -1,9 +1,11 @@
 -- How objects stand: what is looked at again after an event is all that may have changed.
 use Rattle.std.proofs.Common.{◌≡◌, ℕ, zero, suc, Bool, true, false, cond, ◌+◌, ◌<◌, List, [], ◌∷◌, ◌++◌, drop, length, map, refl, ap, sym, subst, ◌∙◌, arith, Option, Some, None}
-use Rattle.std.specs.Prelude.{◌==◌, ◌&&◌, is_none, nat_lt, slice_get, slice_set, ℤ}
+use Rattle.std.specs.Prelude.{◌==◌, ◌&&◌, ◌||◌, is_none, nat_le, nat_lt, slice_get, slice_set, ℤ}
 use Rattle.std.proofs.lemmas.Bool.{le-ltb, lt-ltb}
 use Rattle.std.proofs.lemmas.Bool.Decides.{nat_tests}
+use Rattle.std.specs.List.{AllByRecursion}
 use Rattle.chare_base.specs.declared.message.Payload.{Payload}
+use Rattle.chare_base.specs.declared.message.Port.TheVariants as ports
 use Rattle.chare_base.specs.declared.message.EntryId.{EntryId}
 use Rattle.chare_base.specs.declared.message.ReductionId.{ReductionId}
 use Rattle.chare_base.specs.declared.plan.ElementId.{ElementId}
@@ -15,17 +17,21 @@ use Rattle.letter_post.specs.declared.letter.Letter.{Letter}
 use Rattle.letter_post.specs.declared.letter.Letter.TheVariants as letters
 use Rattle.letter_post.specs.declared.stamp.Stamp.{Stamp}
 use Rattle.letter_post.specs.Stamps.{lines_of, same_stamp}
-use Rattle.object_steps.specs.Objects.{Progress, ready}
+use Rattle.ref_messages.specs.Queue.{message}
+use Rattle.object_steps.specs.Objects.{Fits, Progress, awaits, awaits_at, key_of, mailed, ready}
 use Rattle.node_core.specs.declared.piece.Held.{Held}
-use Rattle.node_core.specs.Nodes.{Body, NodeState, awake, body_ran, body_ran_at, body_ran_by, completed_by, can_run_by, element_in, first_running, first_running_of, is_new, node_heard, node_heard_by, node_ran, node_ran_by, objects_of, outcome_of, parcel_heard, partial_heard, piece_kept, rests, rests_by, share_heard, stands, taken_at, taken_by, unmoved}
+use Rattle.node_core.specs.Keeps.{Fitted, FittedBody}
+use Rattle.node_core.proofs.Waking.{wakes}
+use Rattle.node_core.specs.Nodes.{Body, NodeState, awaits_by, awake, body_ran, body_ran_at, body_ran_by, completed_by, can_run_by, element_in, first_running, first_running_of, is_new, node_heard, node_heard_by, node_ran, node_ran_by, objects_of, outcome_of, parcel_heard, partial_heard, piece_kept, rests, rests_by, share_heard, stands, taken_at, taken_by, unmoved}
 use Rattle.node_core.specs.Rosters.{number_in, seat_of, sharers_of}
-use Rattle.node_core.specs.Turns.{can_run, is_step}
+use Rattle.node_core.specs.Turns.{can_run, is_step, takes}
 use Rattle.world_core.specs.declared.doing.Readiness.{Readiness}
 use Rattle.world_core.specs.declared.doing.Readiness.TheVariants.{Behind, Ready, Awaits, Level, Past}
-use Rattle.world_core.specs.declared.doing.Reach.TheVariants.{Element}
-use Rattle.world_core.specs.Steps.{first_able, is_able, marked, marked_by, reach_of, readiness_at, readiness_by}
+use Rattle.world_core.specs.declared.doing.Reach.TheVariants.{Message}
+use Rattle.world_core.specs.Steps.{first_able, is_able, is_awaiting, marked, marked_by, reach_of, readiness_at, readiness_by, woken}
 use Rattle.world_core.specs.Worlds.{readiness, seats_of}
 use Rattle.world_core.proofs.Counting.{shaped}
+use Rattle.world_core.proofs.Lists.{all_got, get_mapped}
 
 -- ---- one object
 
@@ -107,14 +113,100 @@ module _ (p : Plan) (top : ℕ) where
   stays all (Some i) = same all i
 
   -- the object of a seat took a message
-  takes_one : (k : ℕ) (entry : EntryId) (payload : Payload) (all : List Progress) (seat : Option ℕ) →
-      seats (taken_at k entry payload all seat) seat (map how all) ≡ map how (taken_at k entry payload all seat)
-  takes_one k entry payload all None = refl
-  takes_one k entry payload all (Some i) = by (slice_get all i)
-    where
-      by : (o : Option Progress) → slice_set (map how all) i (at (taken_by k entry payload all i o) i) ≡ map how (taken_by k entry payload all i o)
-      by None = same all i
-      by (Some o) = new all i _
+  module _ (k : ℕ) (entry : EntryId) (payload : Payload) where
+    abbrev got : Progress → Progress
+    got o = takes o (key_of k (ports.Entry entry)) payload
+
+    abbrev bright : Progress → Bool
+    bright o = is_awaiting (Some (how o)) && awaits p (got o) k entry.0
+
+    -- it stands so far as before, and awaits what it awaited
+    same_step : (o : Progress) (b : Bool) → (cond b (mailed o (key_of k (ports.Entry entry)) payload) o).step ≡ o.step
+    same_step o true = refl
+    same_step o false = refl
+
+    same_awaits : (o : Progress) (b : Bool) → awaits p (cond b (mailed o (key_of k (ports.Entry entry)) payload) o) k entry.0 ≡ awaits p o k entry.0
+    same_awaits o true = refl
+    same_awaits o false = refl
+
+    between : (o : Progress) (b : Bool) → o.step ≡ None → how (cond b (mailed o (key_of k (ports.Entry entry)) payload) o) ≡ how o
+    between o false none = refl
+    between o true none = shaped p top (mailed o (key_of k (ports.Entry entry)) payload) None none ∙ sym (shaped p top o None none)
+
+    abbrev kept : Progress → Bool
+    kept o = nat_le o.mail.since k && is_none (message o.mail (key_of k (ports.Entry entry)))
+
+    woke : (o : Progress) → Fits p o → how (got o) ≡ cond (bright o) Ready (how o)
+    woke o fits = by o.step refl
+      where
+        same_there : awaits p (got o) k entry.0 ≡ awaits p o k entry.0
+        same_there = same_awaits o (kept o)
+
+        never : (a : Bool) → cond (a && false) Ready (how o) ≡ how o
+        never true = refl
+        never false = refl
+
+        -- inside an iteration
+        inside : (s : ℕ) → o.step ≡ Some s → (r a : Bool) → is_step (ready p o) ≡ r → awaits p o k entry.0 ≡ a → cond (r || a) Ready Awaits ≡ cond (is_awaiting (Some (cond r Ready Awaits)) && a) Ready (cond r Ready Awaits)
+        inside s is true a q t = refl
+        inside s is false true q t = refl
+        inside s is false false q t = refl
+
+        runs : (s : ℕ) → o.step ≡ Some s → can_run p top o ≡ is_step (ready p o)
+        runs s is = ap (λ (t : Option ℕ). cond (is_none t) (nat_lt o.done top && nat_lt o.done p.iterations) (is_step (ready p o))) is
+
+        runs_then : (s : ℕ) → o.step ≡ Some s → can_run p top (got o) ≡ is_step (ready p (got o))
+        runs_then s is = ap (λ (t : Option ℕ). cond (is_none t) (nat_lt (got o).done top && nat_lt (got o).done p.iterations) (is_step (ready p (got o)))) (same_step o (kept o) ∙ is)
+
+        by : (t : Option ℕ) → o.step ≡ t → how (got o) ≡ cond (bright o) Ready (how o)
+        by None is =
+            between o (kept o) is ∙ sym (never (is_awaiting (Some (how o))))
+            ∙ sym (ap (λ (a : Bool). cond (is_awaiting (Some (how o)) && a) Ready (how o)) (same_there ∙ ap (awaits_at p o k entry.0) is))
+        by (Some s) is =
+            shaped p top (got o) (Some s) (same_step o (kept o) ∙ is) ∙ ap (λ b. cond b Ready Awaits) (runs_then s is ∙ wakes p o k entry payload fits s is)
+            ∙ inside s is (is_step (ready p o)) (awaits p o k entry.0) refl refl
+            ∙ ap (λ b. cond (is_awaiting (Some (cond b Ready Awaits)) && awaits p o k entry.0) Ready (cond b Ready Awaits)) (sym (runs s is))
+            ∙ ap (λ (r : Readiness). cond (is_awaiting (Some r) && awaits p o k entry.0) Ready r) (sym (shaped p top o (Some s) is))
+            ∙ ap (λ (a : Bool). cond (is_awaiting (Some (how o)) && a) Ready (how o)) (sym same_there)
+
+    get_set : (all : List Progress) (i : ℕ) (o x : Progress) → slice_get all i ≡ Some o → slice_get (slice_set all i x) i ≡ Some x
+    get_set [] i o x h = absurd (let q : None ≡ Some o = h in cc)
+    get_set (y ∷ more) zero o x h = refl
+    get_set (y ∷ more) (suc i) o x h = get_set more i o x h
+
+    map_set : (all : List Progress) (i : ℕ) (x : Progress) → slice_set (map how all) i (how x) ≡ map how (slice_set all i x)
+    map_set [] i x = refl
+    map_set (o ∷ more) zero x = refl
+    map_set (o ∷ more) (suc i) x = ap (λ rs. how o ∷ rs) (map_set more i x)
+
+    kept_set : (all : List Progress) (i : ℕ) (o : Progress) → slice_get all i ≡ Some o → slice_set (map how all) i (how o) ≡ map how all
+    kept_set all i o is = ap (slice_set (map how all) i) (sym (ap (λ (x : Option Progress). readiness_by p top x) is)) ∙ same all i
+
+    chosen : (b : Bool) (rs : List Readiness) (i : ℕ) (r : Readiness) → cond b (slice_set rs i Ready) (slice_set rs i r) ≡ slice_set rs i (cond b Ready r)
+    chosen true rs i r = refl
+    chosen false rs i r = refl
+
+    abbrev wakened : List Progress → Option ℕ → List Progress → List Readiness
+    wakened objects None all = map how all
+    wakened objects (Some i) all = cond (is_awaiting (slice_get (map how all) i) && awaits_by p k entry (slice_get objects i)) (slice_set (map how all) i Ready) (map how all)
+
+    none_get : (all : List Progress) (i : ℕ) → slice_get all i ≡ None → slice_get (map how all) i ≡ None
+    none_get [] i h = refl
+    none_get (o ∷ more) zero h = absurd (let q : Some o ≡ None = h in cc)
+    none_get (o ∷ more) (suc i) h = none_get more i h
+
+    takes_one : (all : List Progress) → AllByRecursion (Fits p) all → (seat : Option ℕ) → wakened (taken_at k entry payload all seat) seat all ≡ map how (taken_at k entry payload all seat)
+    takes_one all fits None = refl
+    takes_one all fits (Some i) = by (slice_get all i) refl
+      where
+        by : (o : Option Progress) → slice_get all i ≡ o → wakened (taken_by k entry payload all i o) (Some i) all ≡ map how (taken_by k entry payload all i o)
+        by None none = ap (λ (r : Option Readiness). cond (is_awaiting r && awaits_by p k entry (slice_get all i)) (slice_set (map how all) i Ready) (map how all)) (none_get all i none)
+        by (Some o) is =
+            ap (λ (x : Option Progress). cond (is_awaiting (slice_get (map how all) i) && awaits_by p k entry x) (slice_set (map how all) i Ready) (map how all)) (get_set all i o (got o) is)
+            ∙ ap (λ (r : Option Readiness). cond (is_awaiting r && awaits p (got o) k entry.0) (slice_set (map how all) i Ready) (map how all)) (get_mapped how all i o is)
+            ∙ ap (λ (rs : List Readiness). cond (bright o) (slice_set (map how all) i Ready) rs) (sym (kept_set all i o is))
+            ∙ chosen (bright o) (map how all) i (how o) ∙ ap (slice_set (map how all) i) (sym (woke o (all_got (Fits p) all i o fits is)))
+            ∙ map_set all i (got o)
 
   -- ---- a node
 
@@ -167,11 +259,11 @@ module _ (p : Plan) (top : ℕ) where
     abbrev heard : Letter → Option Body → NodeState
     heard letter b = (node_heard_by p script place letter n b).node
 
-    parcel : (b : Body) (k : ℕ) (entry : EntryId) (to : ElementId) (payload : Payload) (own : Bool) →
-        seats (cond own (parcel_heard n.roster k entry to payload b) (unmoved b)).body.objects (seat_of n.roster to.0) (map how b.objects)
+    parcel : (b : Body) → AllByRecursion (Fits p) b.objects → (k : ℕ) (entry : EntryId) (to : ElementId) (payload : Payload) (own : Bool) →
+        cond own (wakened k entry payload (cond own (parcel_heard n.roster k entry to payload b) (unmoved b)).body.objects (seat_of n.roster to.0) b.objects) (map how b.objects)
         ≡ map how (cond own (parcel_heard n.roster k entry to payload b) (unmoved b)).body.objects
-    parcel b k entry to payload true = takes_one k entry payload b.objects (seat_of n.roster to.0)
-    parcel b k entry to payload false = stays b.objects (seat_of n.roster to.0)
+    parcel b fits k entry to payload true = takes_one k entry payload b.objects fits (seat_of n.roster to.0)
+    parcel b fits k entry to payload false = refl
 
     share : (b : Body) (replica : ℕ) (own : Stamp) (r : ReductionId) (k node : ℕ) (value : ℤ) (x : Option Reduction) → (partial_heard n.roster replica own r k node value b x).body.objects ≡ b.objects
     share b replica own r k node value None = refl
@@ -190,44 +282,53 @@ module _ (p : Plan) (top : ℕ) where
     piece b held true = refl
     piece b held false = refl
 
-    heard_by : (letter : Letter) (b : Option Body) → n.body ≡ b → marked_by p top (heard letter b) (reach_of letter) (map how (objects_of b)) ≡ seats_of p top (heard letter b)
-    heard_by (letters.Parcel stamp entry k to payload) None is =
-        marks n (seat_of n.roster to.0) [] ∙ subst (λ o. seats (objects_of o) (seat_of n.roster to.0) [] ≡ map how (objects_of o)) (sym is) (stays [] (seat_of n.roster to.0))
-    heard_by (letters.Parcel stamp entry k to payload) (Some b) is =
-        marks (heard (letters.Parcel stamp entry k to payload) (Some b)) (seat_of n.roster to.0) (map how b.objects) ∙ parcel b k entry to payload (same_stamp stamp n.last.stamp)
-    heard_by (letters.Partial stamp r k node value) None is = ap (λ o. map how (objects_of o)) (sym is)
-    heard_by (letters.Partial stamp r k node value) (Some b) is = ap (map how) (sym (partial b r k node value (same_stamp stamp n.last.stamp)))
-    heard_by (letters.Total stamp r k value) b is = refl
-    heard_by (letters.Piece stamp x) None is = ap (λ o. map how (objects_of o)) (sym is)
-    heard_by (letters.Piece stamp x) (Some b) is = ap (map how) (sym (piece b (record { stamp = stamp; piece = x }) (x.node == n.slot.node && is_new stamp x b.other)))
-    heard_by (letters.VerdictOf first second node k verdict x) None is = ap (λ o. map how (objects_of o)) (sym is)
-    heard_by (letters.VerdictOf first second node k verdict x) (Some b) is = refl
-    heard_by (letters.Lend k fresh) None is = ap (λ o. map how (objects_of o)) (sym is)
-    heard_by (letters.Lend k fresh) (Some b) is = refl
-    heard_by (letters.Take stamp k live x) b is = refl
-    heard_by (letters.Restore stamp k live) b is = refl
-    heard_by (letters.Commit stamp k live) b is = refl
-    heard_by (letters.Resume stamp) b is = refl
-    heard_by (letters.Died stamp slot line) None is = ap (λ o. map how (objects_of o)) (sym is)
-    heard_by (letters.Died stamp slot line) (Some b) is = refl
-    heard_by letters.Stop None is = ap (λ o. map how (objects_of o)) (sym is)
-    heard_by letters.Stop (Some b) is = refl
+    wakens : (k : ℕ) (entry : EntryId) (payload : Payload) (m : NodeState) (seat : Option ℕ) (all : List Progress) → woken p m k entry seat (map how all) ≡ wakened k entry payload (objects_of m.body) seat all
+    wakens k entry payload m None all = refl
+    wakens k entry payload m (Some i) all = refl
 
-    pub heard_marks : (letter : Letter) (kept : List Readiness) → kept ≡ seats_of p top n →
-        marked_by p top (node_heard p script place letter n).node (reach_of letter) kept ≡ seats_of p top (node_heard p script place letter n).node
+    nobody : (k : ℕ) (entry : EntryId) (own : Bool) (seat : Option ℕ) → cond own (woken p n k entry seat []) [] ≡ []
+    nobody k entry false seat = refl
+    nobody k entry true None = refl
+    nobody k entry true (Some i) = refl
+
+    heard_by : (letter : Letter) (b : Option Body) → FittedBody p b → n.body ≡ b → marked_by p top (heard letter b) (reach_of n.last.stamp letter) (map how (objects_of b)) ≡ seats_of p top (heard letter b)
+    heard_by (letters.Parcel stamp entry k to payload) None fits is = nobody k entry (same_stamp stamp n.last.stamp) (seat_of n.roster to.0) ∙ ap (λ o. map how (objects_of o)) (sym is)
+    heard_by (letters.Parcel stamp entry k to payload) (Some b) fits is =
+        ap (λ (rs : List Readiness). cond (same_stamp stamp n.last.stamp) rs (map how b.objects)) (wakens k entry payload (heard (letters.Parcel stamp entry k to payload) (Some b)) (seat_of n.roster to.0) b.objects)
+        ∙ parcel b fits k entry to payload (same_stamp stamp n.last.stamp)
+    heard_by (letters.Partial stamp r k node value) None fits is = ap (λ o. map how (objects_of o)) (sym is)
+    heard_by (letters.Partial stamp r k node value) (Some b) fits is = ap (map how) (sym (partial b r k node value (same_stamp stamp n.last.stamp)))
+    heard_by (letters.Total stamp r k value) b fits is = refl
+    heard_by (letters.Piece stamp x) None fits is = ap (λ o. map how (objects_of o)) (sym is)
+    heard_by (letters.Piece stamp x) (Some b) fits is = ap (map how) (sym (piece b (record { stamp = stamp; piece = x }) (x.node == n.slot.node && is_new stamp x b.other)))
+    heard_by (letters.VerdictOf first second node k verdict x) None fits is = ap (λ o. map how (objects_of o)) (sym is)
+    heard_by (letters.VerdictOf first second node k verdict x) (Some b) fits is = refl
+    heard_by (letters.Lend k fresh) None fits is = ap (λ o. map how (objects_of o)) (sym is)
+    heard_by (letters.Lend k fresh) (Some b) fits is = refl
+    heard_by (letters.Take stamp k live x) b fits is = refl
+    heard_by (letters.Restore stamp k live) b fits is = refl
+    heard_by (letters.Commit stamp k live) b fits is = refl
+    heard_by (letters.Resume stamp) b fits is = refl
+    heard_by (letters.Died stamp slot line) None fits is = ap (λ o. map how (objects_of o)) (sym is)
+    heard_by (letters.Died stamp slot line) (Some b) fits is = refl
+    heard_by letters.Stop None fits is = ap (λ o. map how (objects_of o)) (sym is)
+    heard_by letters.Stop (Some b) fits is = refl
+
+    pub heard_marks : Fitted p n → (letter : Letter) (kept : List Readiness) → kept ≡ seats_of p top n →
+        marked_by p top (node_heard p script place letter n).node (reach_of n.last.stamp letter) kept ≡ seats_of p top (node_heard p script place letter n).node
     unfolding node_heard
-    heard_marks (letters.Parcel stamp entry k to payload) kept is = ap (marked_by p top (heard (letters.Parcel stamp entry k to payload) n.body) (Element to)) is ∙ heard_by (letters.Parcel stamp entry k to payload) n.body refl
-    heard_marks (letters.Partial stamp r k node value) kept is = is ∙ heard_by (letters.Partial stamp r k node value) n.body refl
-    heard_marks (letters.Total stamp r k value) kept is = refl
-    heard_marks (letters.Piece stamp x) kept is = is ∙ heard_by (letters.Piece stamp x) n.body refl
-    heard_marks (letters.VerdictOf first second node k verdict x) kept is = is ∙ heard_by (letters.VerdictOf first second node k verdict x) n.body refl
-    heard_marks (letters.Lend k fresh) kept is = is ∙ heard_by (letters.Lend k fresh) n.body refl
-    heard_marks (letters.Take stamp k live x) kept is = refl
-    heard_marks (letters.Restore stamp k live) kept is = refl
-    heard_marks (letters.Commit stamp k live) kept is = refl
-    heard_marks (letters.Resume stamp) kept is = refl
-    heard_marks (letters.Died stamp slot line) kept is = is ∙ heard_by (letters.Died stamp slot line) n.body refl
-    heard_marks letters.Stop kept is = is ∙ heard_by letters.Stop n.body refl
+    heard_marks fits (letters.Parcel stamp entry k to payload) kept is = ap (marked_by p top (heard (letters.Parcel stamp entry k to payload) n.body) (Message (same_stamp stamp n.last.stamp) to k entry)) is ∙ heard_by (letters.Parcel stamp entry k to payload) n.body fits refl
+    heard_marks fits (letters.Partial stamp r k node value) kept is = is ∙ heard_by (letters.Partial stamp r k node value) n.body fits refl
+    heard_marks fits (letters.Total stamp r k value) kept is = refl
+    heard_marks fits (letters.Piece stamp x) kept is = is ∙ heard_by (letters.Piece stamp x) n.body fits refl
+    heard_marks fits (letters.VerdictOf first second node k verdict x) kept is = is ∙ heard_by (letters.VerdictOf first second node k verdict x) n.body fits refl
+    heard_marks fits (letters.Lend k fresh) kept is = is ∙ heard_by (letters.Lend k fresh) n.body fits refl
+    heard_marks fits (letters.Take stamp k live x) kept is = refl
+    heard_marks fits (letters.Restore stamp k live) kept is = refl
+    heard_marks fits (letters.Commit stamp k live) kept is = refl
+    heard_marks fits (letters.Resume stamp) kept is = refl
+    heard_marks fits (letters.Died stamp slot line) kept is = is ∙ heard_by (letters.Died stamp slot line) n.body fits refl
+    heard_marks fits letters.Stop kept is = is ∙ heard_by letters.Stop n.body fits refl
 
   -- ---- the first that can run
 

@@ -11,6 +11,7 @@ use Rattle.iteration_agree.specs.declared.round.Round.{Round}
 use Rattle.iteration_agree.specs.declared.round.Standing.{Standing}
 use Rattle.letter_post.specs.declared.letter.Letter.{Letter}
 use Rattle.letter_post.specs.declared.letter.Sent.{Sent}
+use Rattle.node_core.specs.Keeps.{Fitted}
 use Rattle.node_core.specs.Nodes.{Answer, NodeState, Outcome, node_heard, node_ran, out_of, outcome_of}
 use Rattle.node_core.specs.Rosters.{roster_of, seat_of}
 use Rattle.node_core.specs.Starts.{start_state}
@@ -68,21 +69,21 @@ module _ (s : Setting) (cut : CutState) (x : SlotState) (e : ElementId) (t : Sta
 -- ---- it heard a letter
 
 module _ (s : Setting) (cut : CutState) (x : SlotState) (letter : Letter) (t : Standing) (n : NodeState) (out : List Sent) (reach : Reach) (seats : List Readiness) where
-  pub heard_seats : t ≡ stand cut x.node.slot → x.seats ≡ seats_of s.plan (stand cut x.node.slot).top x.node →
-      ◌≡◌ {A = Outcome} (record { node = n; out = out }) (node_heard s.plan s.script s.place letter x.node) → reach ≡ reach_of letter → seats ≡ marked_by s.plan t.top n reach x.seats → seats ≡ seats_of s.plan t.top n
-  heard_seats at kept is reaches marked_now =
+  pub heard_seats : Fitted s.plan x.node → t ≡ stand cut x.node.slot → x.seats ≡ seats_of s.plan (stand cut x.node.slot).top x.node →
+      ◌≡◌ {A = Outcome} (record { node = n; out = out }) (node_heard s.plan s.script s.place letter x.node) → reach ≡ reach_of x.node.last.stamp letter → seats ≡ marked_by s.plan t.top n reach x.seats → seats ≡ seats_of s.plan t.top n
+  heard_seats fits at kept is reaches marked_now =
       let after : n ≡ (node_heard s.plan s.script s.place letter x.node).node = ap (λ (o : Outcome). o.node) is in
       marked_now ∙ ap (λ (r : Reach). marked_by s.plan t.top n r x.seats) reaches
-      ∙ subst (λ (m : NodeState). marked_by s.plan t.top m (reach_of letter) x.seats ≡ seats_of s.plan t.top m) (sym after)
-      (heard_marks s.plan t.top s.script s.place x.node letter x.seats (kept_at s.plan cut x.node t x.seats at kept))
+      ∙ subst (λ (m : NodeState). marked_by s.plan t.top m (reach_of x.node.last.stamp letter) x.seats ≡ seats_of s.plan t.top m) (sym after)
+      (heard_marks s.plan t.top s.script s.place x.node fits letter x.seats (kept_at s.plan cut x.node t x.seats at kept))
 
-  pub heard_slot : (round : Round) (more : List Letter) (back : Option ℕ) (since : Since) (new : SlotState) → x.box ≡ letter ∷ more → back ≡ back_after letter x.back → since ≡ since_after letter x.since →
+  pub heard_slot : Fitted s.plan x.node → (round : Round) (more : List Letter) (back : Option ℕ) (since : Since) (new : SlotState) → x.box ≡ letter ∷ more → back ≡ back_after letter x.back → since ≡ since_after letter x.since →
       round ≡ cut.round → t ≡ stand cut x.node.slot → x.seats ≡ seats_of s.plan (stand cut x.node.slot).top x.node →
-      ◌≡◌ {A = Outcome} (record { node = n; out = out }) (node_heard s.plan s.script s.place letter x.node) → reach ≡ reach_of letter → seats ≡ marked_by s.plan t.top n reach x.seats → n.slot ≡ x.node.slot →
+      ◌≡◌ {A = Outcome} (record { node = n; out = out }) (node_heard s.plan s.script s.place letter x.node) → reach ≡ reach_of x.node.last.stamp letter → seats ≡ marked_by s.plan t.top n reach x.seats → n.slot ≡ x.node.slot →
       ◌≡◌ {A = SlotState} new (record { node = n; box = more; back = back; since = since; seats = seats; doing = doing_of s.plan round t n more back since }) →
       ◌≡◌ {A = Acted} (record { slot = new; cut = cut; out = out }) (slot_heard s cut x x.box)
-  heard_slot round more back since new box backs sinces now at kept is reaches marked_now own made =
-      told_is s.plan cut (node_heard s.plan s.script s.place letter x.node) more back since x.node.slot round t n out seats new now at is own (heard_seats at kept is reaches marked_now) made
+  heard_slot fits round more back since new box backs sinces now at kept is reaches marked_now own made =
+      told_is s.plan cut (node_heard s.plan s.script s.place letter x.node) more back since x.node.slot round t n out seats new now at is own (heard_seats fits at kept is reaches marked_now) made
       ∙ ap (λ (b : Option ℕ). acted s.plan cut (node_heard s.plan s.script s.place letter x.node) more b since) backs
       ∙ ap (λ (q : Since). acted s.plan cut (node_heard s.plan s.script s.place letter x.node) more (back_after letter x.back) q) sinces
       ∙ sym (ap (slot_heard s cut x) box)

@@ -1,21 +1,24 @@
 -- Which events can happen.
 use Rattle.std.specs.Prelude.{◌≡◌, ℕ, ◌+◌, suc, slice_get, slice_set, ◌&&◌, not, Bool, true, false, if◌then◌else◌, is_some, is_none, List, [], ◌∷◌, Option, Some, None}
+use Rattle.chare_base.specs.declared.message.EntryId.{EntryId}
 use Rattle.chare_base.specs.declared.plan.ElementId.{ElementId}
 use Rattle.chare_base.specs.declared.plan.Plan.{Plan}
 use Rattle.fault_script.specs.declared.fault.Fault.{Fault}
 use Rattle.iteration_agree.specs.Cuts.{CutState, HasSlot}
 use Rattle.letter_post.specs.declared.letter.Letter.{Letter}
 use Rattle.letter_post.specs.declared.letter.Letter.TheVariants as letters
+use Rattle.letter_post.specs.declared.stamp.Stamp.{Stamp}
+use Rattle.letter_post.specs.Stamps.{same_stamp}
 use Rattle.node_core.specs.Keeps.{Fitted}
 use Rattle.object_steps.specs.Objects.{Progress}
-use Rattle.node_core.specs.Nodes.{NodeState, node_can_run, objects_of, rests}
+use Rattle.node_core.specs.Nodes.{NodeState, awaits_by, node_can_run, objects_of, rests}
 use Rattle.node_core.specs.Rosters.{seat_of}
 use Rattle.world_core.specs.declared.doing.Doing.{Doing}
 use Rattle.world_core.specs.declared.doing.Doing.TheVariants as doings
 use Rattle.world_core.specs.declared.doing.Readiness.{Readiness}
 use Rattle.world_core.specs.declared.doing.Readiness.TheVariants.{Behind, Ready, Awaits, Level, Past}
 use Rattle.world_core.specs.declared.doing.Reach.{Reach}
-use Rattle.world_core.specs.declared.doing.Reach.TheVariants.{Nobody, Element, Everybody}
+use Rattle.world_core.specs.declared.doing.Reach.TheVariants.{Nobody, Message, Everybody}
 use Rattle.world_core.specs.declared.event.Event.{Event}
 use Rattle.world_core.specs.declared.event.Event.TheVariants as events
 use Rattle.world_core.specs.Worlds.{Setting, SlotState, WorldState, conductor_due, readiness, seats_of, slot_at, slot_doing, slot_move, stand}
@@ -25,20 +28,20 @@ setting p script place nodes = record { plan = p; script = script; place = place
 
 -- ---- how objects stand, kept as events touch them
 
--- which objects a letter may touch
-abbrev pub reach_of : Letter → Reach
-reach_of (letters.Parcel stamp entry k to payload) = Element to
-reach_of (letters.Partial stamp r k node value) = Nobody
-reach_of (letters.Total stamp r k value) = Everybody
-reach_of (letters.Piece stamp piece) = Nobody
-reach_of (letters.VerdictOf first second node k verdict piece) = Nobody
-reach_of (letters.Lend k fresh) = Nobody
-reach_of (letters.Take stamp k live piece) = Everybody
-reach_of (letters.Restore stamp k live) = Everybody
-reach_of (letters.Commit stamp k live) = Everybody
-reach_of (letters.Resume stamp) = Everybody
-reach_of (letters.Died stamp slot line) = Nobody
-reach_of letters.Stop = Nobody
+-- which objects a letter may touch that comes to a node of this stamp
+abbrev pub reach_of : Stamp → Letter → Reach
+reach_of own (letters.Parcel stamp entry k to payload) = Message (same_stamp stamp own) to k entry
+reach_of own (letters.Partial stamp r k node value) = Nobody
+reach_of own (letters.Total stamp r k value) = Everybody
+reach_of own (letters.Piece stamp piece) = Nobody
+reach_of own (letters.VerdictOf first second node k verdict piece) = Nobody
+reach_of own (letters.Lend k fresh) = Nobody
+reach_of own (letters.Take stamp k live piece) = Everybody
+reach_of own (letters.Restore stamp k live) = Everybody
+reach_of own (letters.Commit stamp k live) = Everybody
+reach_of own (letters.Resume stamp) = Everybody
+reach_of own (letters.Died stamp slot line) = Nobody
+reach_of own letters.Stop = Nobody
 
 -- how the object of a seat stands; a seat that has none stands nowhere
 abbrev pub readiness_by : Plan → ℕ → Option Progress → Readiness
@@ -53,9 +56,22 @@ abbrev pub marked : Plan → ℕ → NodeState → Option ℕ → List Readiness
 marked p top n None seats = seats
 marked p top n (Some i) seats = slice_set seats i (readiness_at p top n i)
 
+abbrev pub is_awaiting : Option Readiness → Bool
+is_awaiting None = false
+is_awaiting (Some Behind) = false
+is_awaiting (Some Ready) = false
+is_awaiting (Some Awaits) = true
+is_awaiting (Some Level) = false
+is_awaiting (Some Past) = false
+
+-- a message came to the object of a seat: one that waits and awaited it can run now, and any other stands as before
+abbrev pub woken : Plan → NodeState → ℕ → EntryId → Option ℕ → List Readiness → List Readiness
+woken p n k entry None seats = seats
+woken p n k entry (Some i) seats = if is_awaiting (slice_get seats i) && awaits_by p k entry (slice_get (objects_of n.body) i) then slice_set seats i Ready else seats
+
 abbrev pub marked_by : Plan → ℕ → NodeState → Reach → List Readiness → List Readiness
 marked_by p top n Nobody seats = seats
-marked_by p top n (Element e) seats = marked p top n (seat_of n.roster e.0) seats
+marked_by p top n (Message own to k entry) seats = if own then woken p n k entry (seat_of n.roster to.0) seats else seats
 marked_by p top n Everybody seats = seats_of p top n
 
 abbrev pub is_able : Readiness → Bool

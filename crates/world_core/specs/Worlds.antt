@@ -1,5 +1,5 @@
 -- The world: all slots with their inboxes, the agreement, the conductor with its own inbox, and what each event makes of it.
-use Rattle.std.specs.Prelude.{ℕ, zero, suc, ◌+◌, ◌-◌, ◌*◌, ◌/◌, ◌%◌, ◌^◌, Bool, true, false, not, ◌==◌, ◌&&◌, ◌||◌, nat_lt, nat_le, is_some, if◌then◌else◌, List, [], ◌∷◌, ◌++◌, length, map, slice_get, slice_set, Option, Some, None}
+use Rattle.std.specs.Prelude.{ℕ, zero, suc, ◌+◌, ◌-◌, ◌*◌, ◌/◌, ◌%◌, ◌^◌, Bool, true, false, not, ◌==◌, ◌&&◌, ◌||◌, nat_lt, nat_le, is_some, if◌then◌else◌, List, [], ◌∷◌, ◌++◌, length, map, option_map, slice_get, slice_set, Option, Some, None}
 use Rattle.chare_base.specs.declared.plan.ElementId.{ElementId}
 use Rattle.chare_base.specs.declared.options.Options.{Options}
 use Rattle.chare_base.specs.declared.plan.Plan.{Plan}
@@ -499,6 +499,11 @@ first_or all None = slice_get all 0
 abbrev pub chosen_of : Chooser → List ℕ → Option ℕ
 chosen_of (choosers.Round last) all = first_or all (first_above last all)
 chosen_of (choosers.Draw random) all = slice_get all (drawn (stirred random) (length all))
+
+-- an actor, where there is one and it has an event, with that event
+abbrev pub with_event : Plan → ℕ → WorldState → Option ℕ → Option (ℕ × Event)
+with_event p nodes w None = None
+with_event p nodes w (Some i) = option_map (λ event. (i, event)) (enabled p nodes w (actor_at nodes i))
 
 -- how it goes on once an actor is taken
 abbrev pub goes_on : Chooser → ℕ → Chooser

@@ -1,5 +1,6 @@
 //! What a slot would do next, and its moves on the agreement.
 
+use chare_base::message::EntryId;
 use chare_base::plan::ElementId;
 
 /// What a slot would do next.
@@ -34,7 +35,13 @@ pub enum SlotMove {
 #[derive(Clone, Copy, Debug, PartialEq, Eq)]
 pub enum Reach {
     Nobody,
-    Element(ElementId),
+    /// The element that a message of an entry is for, where the letter's stamp is the node's own.
+    Message {
+        own: bool,
+        to: ElementId,
+        iteration: u64,
+        entry: EntryId,
+    },
     Everybody,
 }
 

@@ -1,6 +1,6 @@
 //! Drills: whole runs by a schedule.
 
-ghost use Rattle.std.specs.Prelude.{◌≡◌, ◌≤◌, ◌<◌, ◌+◌, ◌++◌, [], ℕ, suc, length, slice_get, OnOk, IfOk, Err, None, Some};
+ghost use Rattle.std.specs.Prelude.{◌≡◌, ◌≤◌, ◌<◌, ◌+◌, ◌-◌, ◌++◌, suc, length, slice_get, OnOk, IfOk, Err, None, Some};
 ghost use Rattle.std.specs.List.{AllByRecursion};
 ghost use Rattle.chare_base.specs.Elements.{elements};
 ghost use Rattle.fault_script.specs.Lines.{faults_of};
@@ -9,9 +9,9 @@ ghost use Rattle.conductor_core.specs.Endings.{IsEnding};
 ghost use Rattle.world_core.specs.Drills.{drilled, scheduled};
 ghost use Rattle.world_core.specs.Sound.{Sound};
 ghost use Rattle.world_core.specs.Steps.{Fresh, setting};
-ghost use Rattle.world_core.specs.Worlds.{actor_at, chosen_of, drawn, enabled, first_above, goes_on, opening_chooser, picked, reached, ready_from, stirred};
+ghost use Rattle.world_core.specs.Worlds.{actor_at, chosen_of, drawn, goes_on, opening_chooser, picked, reached, ready_from, stirred, with_event};
 
-use crate::event::{Actor, Chooser};
+use crate::event::{Actor, Chooser, Event};
 use crate::fault::DrillFault;
 use crate::laws::{sound_worlds_serve, worlds_are_sound};
 use crate::turns::turns;
@@ -116,17 +116,13 @@ fn go<M: Placement>(
     worlds_are_sound();
     sound_worlds_serve();
     let _ = options;
-    let nodes = map.nodes();
+    // Its contract says that each node has an element, which every event relies on.
+    let _ = map.nodes();
     let mut ready = Vec::new(alloc);
     let mut left = turns;
     let mut chooser = chooser;
     while left > 0 {
-        ready.clear();
-        find_ready(plan, map, world, &mut ready)?;
-        let Some(i) = chosen_of(chooser, ready.as_slice()) else {
-            return Ok(());
-        };
-        let Some(event) = world.enabled(plan, map, actor_at(nodes, i)) else {
+        let Some((i, event)) = next_event(plan, map, world, chooser, &mut ready)? else {
             return Ok(());
         };
         world.happen(alloc, plan, script, map, event)?;
@@ -134,6 +130,90 @@ fn go<M: Placement>(
         left -= 1;
     }
     Ok(())
+}
+
+// The actor that is taken, and its event. Going round asks one actor after another, and no more of them than it must.
+fn next_event<M: Placement>(
+    plan: &Plan,
+    map: &M,
+    world: &World,
+    chooser: Chooser,
+    ready: &mut Vec<usize>,
+) -> Result<Option<(usize, Event)>, Memory>
+    requires { AllByRecursion (Fresh plan.now world.now.cut) world.now.posts.slots }
+    ensures { IfOk result (λ next. next ≡ with_event plan.now (M.count map.now) world.now (chosen_of chooser (ready_from plan.now (M.count map.now) world.now 0 (suc (M.count map.now + M.count map.now))))) }
+{
+    match chooser {
+        Chooser::Round { last } => Ok(next_round(plan, map, world, last)),
+        Chooser::Draw { random } => {
+            ready.clear();
+            find_ready(plan, map, world, ready)?;
+            let drawn = draw(stirred(random), ready.as_slice());
+            Ok(event_drawn(plan, map, world, drawn))
+        }
+    }
+}
+
+// The first actor behind the last one that has an event, else the first of all.
+fn next_round<M: Placement>(
+    plan: &Plan,
+    map: &M,
+    world: &World,
+    last: usize,
+) -> Option<(usize, Event)>
+    requires { AllByRecursion (Fresh plan.now world.now.cut) world.now.posts.slots }
+    ensures { result ≡ with_event plan.now (M.count map.now) world.now (chosen_of (Chooser.Round last) (ready_from plan.now (M.count map.now) world.now 0 (suc (M.count map.now + M.count map.now)))) }
+{
+    let actors = 2 * map.nodes() as usize + 1;
+    match first_ready(plan, map, world, behind(last, actors), actors) {
+        Some(next) => Some(next),
+        None => first_ready(plan, map, world, 0, actors),
+    }
+}
+
+// The actor behind one, of so many.
+fn behind(last: usize, actors: usize) -> usize
+    ensures next { last < actors → result ≡ last + 1 }
+    ensures none { actors ≤ last → result ≡ actors }
+    ensures within { result ≤ actors }
+{
+    if last < actors { last + 1 } else { actors }
+}
+
+// The first actor from one to another that has an event.
+fn first_ready<M: Placement>(
+    plan: &Plan,
+    map: &M,
+    world: &World,
+    from: usize,
+    actors: usize,
+) -> Option<(usize, Event)>
+    requires fresh { AllByRecursion (Fresh plan.now world.now.cut) world.now.posts.slots }
+    requires within { from ≤ actors }
+    ensures { result ≡ with_event plan.now (M.count map.now) world.now (slice_get (ready_from plan.now (M.count map.now) world.now from (actors - from)) 0) }
+{
+    let nodes = map.nodes();
+    for i in from..actors {
+        if let Some(event) = world.enabled(plan, map, actor_at(nodes, i)) {
+            return Some((i, event));
+        }
+    }
+    None
+}
+
+// The event of an actor that was drawn.
+fn event_drawn<M: Placement>(
+    plan: &Plan,
+    map: &M,
+    world: &World,
+    drawn: Option<usize>,
+) -> Option<(usize, Event)>
+    requires { AllByRecursion (Fresh plan.now world.now.cut) world.now.posts.slots }
+    ensures { result ≡ with_event plan.now (M.count map.now) world.now drawn }
+{
+    let i = drawn?;
+    let event = world.enabled(plan, map, actor_at(map.nodes(), i))?;
+    Some((i, event))
 }
 
 // The numbers of the actors that have an event.
@@ -188,36 +268,7 @@ fn opening_chooser(nodes: u16, schedule: u64) -> Chooser
     }
 }
 
-// Which of these actors is taken.
-fn chosen_of(chooser: Chooser, ready: &[usize]) -> Option<usize>
-    ensures { result ≡ chosen_of chooser ready.now }
-{
-    match chooser {
-        Chooser::Round { last } => next_round(last, ready),
-        Chooser::Draw { random } => draw(stirred(random), ready),
-    }
-}
-
-fn next_round(last: usize, ready: &[usize]) -> Option<usize>
-    ensures { result ≡ chosen_of (Chooser.Round last) ready.now }
-{
-    match first_above(last, ready) {
-        Some(i) => Some(i),
-        None => ready.first().copied(),
-    }
-}
-
-fn first_above(last: usize, ready: &[usize]) -> Option<usize>
-    ensures { result ≡ first_above last ready.now }
-{
-    for i in ready {
-        if last < *i {
-            return Some(*i);
-        }
-    }
-    None
-}
-
+// One of these by a random number.
 fn draw(random: u64, ready: &[usize]) -> Option<usize>
     ensures { result ≡ slice_get ready.now (drawn random (length ready.now)) }
 {

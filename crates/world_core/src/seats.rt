@@ -1,16 +1,18 @@
 //! How the objects of a slot's node stand, kept from event to event: an event touches one object or few, and looking at
 //! all of them each time would make a run quadratic in the elements of a node.
 
-ghost use Rattle.std.specs.Prelude.{◌≡◌, ◌≤◌, ◌<◌, ◌+◌, ◌^◌, ◌==◌, ◌&&◌, [], ◌∷◌, ◌++◌, IfSome, OnOk, None, Some, if◌then◌else◌, length, nat_lt, slice_set, take};
+ghost use Rattle.std.specs.Prelude.{◌≡◌, ◌≤◌, ◌<◌, ◌+◌, ◌^◌, ◌==◌, ◌&&◌, [], ◌∷◌, ◌++◌, IfSome, OnOk, None, Some, if◌then◌else◌, length, min, nat_lt, slice_get, slice_set, take};
 ghost use Rattle.node_core.specs.Keeps.{Fitted};
 ghost use Rattle.node_core.specs.Rosters.{seat_of};
-ghost use Rattle.world_core.specs.Steps.{count, first_able, is_able, is_behind, is_level, marked, marked_by, reach_of, readiness_at};
+ghost use Rattle.world_core.specs.Steps.{count, first_able, is_able, is_awaiting, is_behind, is_level, marked, marked_by, reach_of, readiness_at, woken};
 ghost use Rattle.world_core.specs.Worlds.{seats_of};
 
 use crate::doing::{Reach, Readiness};
 use chare_base::memory::Memory;
+use chare_base::message::EntryId;
 use chare_base::plan::{ElementId, Plan};
 use letter_post::letter::Letter;
+use letter_post::stamp::Stamp;
 use node_core::node::Node;
 use std::alloc::Global;
 use std::marker::Model;
@@ -77,7 +79,7 @@ impl SeatStates {
     }
 
     /// A seat is told again; one that isn't there changes nothing.
-    #[tactic(auto, using(crate::proofs::Counting::count_set, crate::proofs::Counting::count_one, crate::proofs::Counting::count_few, crate::proofs::Prefixes::set_clear, crate::proofs::Prefixes::set_within, crate::proofs::Prefixes::set_nowhere))]
+    #[tactic(auto, using(crate::proofs::Counting::count_set, crate::proofs::Counting::count_one, crate::proofs::Counting::count_few, crate::proofs::Prefixes::set_nowhere))]
     pub fn set(&mut self, seat: usize, state: Readiness)
         ensures { self.new ≡ slice_set self.old seat state }
     {
@@ -85,7 +87,7 @@ impl SeatStates {
             let old = self.states[seat];
             self.behind = recounted(self.behind, is_behind(old), is_behind(state));
             self.level = recounted(self.level, is_level(old), is_level(state));
-            self.from = self.from.min(seat);
+            self.from = searched_from(self.from, seat, is_able(state));
             self.states[seat] = state;
         }
     }
@@ -102,6 +104,13 @@ impl SeatStates {
             }
             None => None,
         }
+    }
+
+    /// Whether the object of a seat waits for a message.
+    pub fn is_awaiting(&self, seat: usize) -> bool
+        ensures { result ≡ is_awaiting (slice_get self.now seat) }
+    {
+        is_awaiting(self.states.get(seat).copied())
     }
 
     /// How many seats there are.
@@ -141,6 +150,13 @@ fn recounted(count: usize, before: bool, after: bool) -> usize
     count - one_if(before) + one_if(after)
 }
 
+// Where the search begins after a seat is told again: only one that can run leads it back.
+fn searched_from(from: usize, seat: usize, able: bool) -> usize
+    ensures { result ≡ (if able then min from seat else from) }
+{
+    if able { from.min(seat) } else { from }
+}
+
 fn is_able(state: Readiness) -> bool
     ensures { result ≡ is_able state }
 {
@@ -150,6 +166,15 @@ fn is_able(state: Readiness) -> bool
         Readiness::Awaits => false,
         Readiness::Level => false,
         Readiness::Past => false,
+    }
+}
+
+fn is_awaiting(state: Option<Readiness>) -> bool
+    ensures { result ≡ is_awaiting state }
+{
+    match state {
+        Some(Readiness::Awaits) => true,
+        _ => false,
     }
 }
 
@@ -194,12 +219,23 @@ fn next_able(from: usize, states: &[Readiness]) -> Option<usize>
     None
 }
 
-/// Which elements a letter may touch.
-pub fn reach_of(letter: &Letter) -> Reach
-    ensures { result ≡ reach_of letter.now }
+/// Which elements a letter may touch that comes to a node of this stamp.
+pub fn reach_of(own: Stamp, letter: &Letter) -> Reach
+    ensures { result ≡ reach_of own letter.now }
 {
     match letter {
-        Letter::Parcel { to, .. } => Reach::Element(*to),
+        Letter::Parcel {
+            stamp,
+            entry,
+            iteration,
+            to,
+            ..
+        } => Reach::Message {
+            own: stamp.is_same(own),
+            to: *to,
+            iteration: *iteration,
+            entry: *entry,
+        },
         Letter::Partial { .. } => Reach::Nobody,
         Letter::Total { .. } => Reach::Everybody,
         Letter::Piece { .. } => Reach::Nobody,
@@ -243,13 +279,40 @@ pub fn mark_by(
 {
     match reach {
         Reach::Nobody => Ok(()),
-        Reach::Element(e) => {
-            mark(plan, top, node, e, seats);
+        Reach::Message {
+            own,
+            to,
+            iteration,
+            entry,
+        } => {
+            if own {
+                wake(plan, node, to, iteration, entry, seats);
+            }
             Ok(())
         }
         Reach::Everybody => {
             seats.clear();
             start_seats(plan, top, node, seats)
+        }
+    }
+}
+
+// A message came to an element: only one that waits can have become able to run.
+fn wake(
+    plan: &Plan,
+    node: &Node,
+    to: ElementId,
+    iteration: u64,
+    entry: EntryId,
+    seats: &mut SeatStates,
+)
+    requires { Fitted plan.now node.now }
+    ensures { seats.new ≡ woken plan.now node.now iteration entry (seat_of node.now.roster to.0) seats.old }
+{
+    if let Some(seat) = node.seat(to) {
+        let seat = seat as usize;
+        if seats.is_awaiting(seat) && node.awaits_seat(plan, iteration, entry, seat) {
+            seats.set(seat, Readiness::Ready);
         }
     }
 }

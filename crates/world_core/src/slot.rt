@@ -325,7 +325,7 @@ impl Slot {
         match self.inbox.take() {
             Some(letter) => {
                 let standing = cut.standing(self.node.slot());
-                let reach = reach_of(&letter);
+                let reach = reach_of(self.node.stamp(), &letter);
                 self.back = back_after(&letter, self.back);
                 self.since = since_after(&letter, self.since);
                 let out = self.node.hear(alloc, plan, script, map, letter)?;

@@ -14,9 +14,9 @@ recounted-self-inside-requires-then-seat-len-clause-counted c =
 
 pub invariant_of-self-inside : goal.invariant_of-self-inside
 invariant_of-self-inside c = (
-  clear_at c.self.inside.states.items _ c.self.inside.from c.args.seat c.min-self-inside.result c.args.state c.min-self-inside.ensures refl c.self.inside.clear,
+  clear_at c.self.inside.states.items _ c.self.inside.from c.args.seat c.searched_from-self-inside.result c.args.state c.is_able.result c.is_able.ensures c.searched_from-self-inside.ensures refl c.self.inside.clear,
   (
-    within_at c.self.inside.states.items _ c.self.inside.from c.args.seat c.min-self-inside.result c.args.state c.min-self-inside.ensures refl c.self.inside.within,
+    within_at c.self.inside.states.items _ c.self.inside.from c.args.seat c.searched_from-self-inside.result c.args.state c.is_able.result c.searched_from-self-inside.ensures refl c.self.inside.within,
     (
       told_counts is_behind c.self.inside.states.items _ c.args.seat c.self.inside.behind c.recounted-self-inside.result c.index-old.result.now c.args.state c.is_behind.result c.is_behind-then-seat-len.result (omega (arith, c.if-seat-len.true, c.len.ensures)) c.index-old.ensures c.is_behind.ensures c.is_behind-then-seat-len.ensures c.self.inside.counts_behind c.recounted-self-inside.ensures refl,
       (told_counts is_level c.self.inside.states.items _ c.args.seat c.self.inside.level c.recounted-self-inside-then-seat-len.result c.index-old.result.now c.args.state c.is_level.result c.is_level-then-seat-len.result (omega (arith, c.if-seat-len.true, c.len.ensures)) c.index-old.ensures c.is_level.ensures c.is_level-then-seat-len.ensures c.self.inside.counts_level c.recounted-self-inside-then-seat-len.ensures refl, tt),
