@@ -1,2 +1,4 @@
 pub mod Lawful
+pub mod Beside
 pub mod Told
+pub mod Found

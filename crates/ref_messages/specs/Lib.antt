@@ -1,3 +1,4 @@
 pub mod Queue
 pub mod Refusal
 pub mod Laws
+pub mod Places

@@ -3,7 +3,7 @@
 ghost use Rattle.std.specs.Prelude.{◌≡◌};
 ghost use Rattle.ref_messages.specs.declared.fault.PutFault.TheVariants as faults;
 
-use std::alloc::AllocFailed;
+use chare_base::memory::Memory;
 use thiserror::Error;
 
 /// Why a message is refused.
@@ -20,10 +20,10 @@ pub enum PutFault {
     Memory,
 }
 
-impl<T: Drop> From<AllocFailed<T>> for PutFault {
+impl From<Memory> for PutFault {
     ghost from_gives = { λ _ e. e ≡ faults.Memory };
 
-    fn from(_e: AllocFailed<T>) -> PutFault {
+    fn from(_e: Memory) -> PutFault {
         PutFault::Memory
     }
 }

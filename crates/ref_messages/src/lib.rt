@@ -13,4 +13,5 @@
 pub mod fault;
 pub mod key;
 pub mod laws;
+mod messages;
 pub mod queue;

@@ -9,9 +9,9 @@ ghost use Rattle.ref_messages.specs.Refusal.{Takes, Refuses};
 
 use crate::fault::PutFault;
 use crate::key::RefKey;
+use crate::messages::Messages;
 use chare_base::message::Payload;
 use std::alloc::Global;
-use std::collections::BTreeMap;
 use std::marker::Model;
 
 /// The messages that an element holds, each under its key, all of iterations from a number `now` on.
@@ -21,7 +21,7 @@ use std::marker::Model;
 #[derive(Drop)]
 pub struct RefQueue {
     since: u64,
-    held: BTreeMap<RefKey, Payload>,
+    held: Messages,
 }
 
 impl Model for RefQueue {
@@ -29,9 +29,9 @@ impl Model for RefQueue {
 
     ghost Value = { Queue };
 
-    ghost view = { λ q. record { since = q.since; held = q.held.entries } };
+    ghost view = { λ q. record { since = q.since; held = q.held } };
 
-    ghost invariant = { λ q. IsLawful (record { since = q.since; held = q.held.entries }) };
+    ghost invariant = { λ q. IsLawful (record { since = q.since; held = q.held }) };
 }
 
 impl RefQueue {
@@ -41,7 +41,7 @@ impl RefQueue {
     {
         RefQueue {
             since: now,
-            held: BTreeMap::new(alloc),
+            held: Messages::new(alloc),
         }
     }
 
@@ -54,32 +54,25 @@ impl RefQueue {
         self.since
     }
 
-    /// How many messages are held.
-    pub fn len(&self) -> usize
-        ensures { result ≡ length self.now.held }
-    {
-        self.held.len()
-    }
-
     /// Whether no message is held.
     pub fn is_empty(&self) -> bool
         ensures { result ≡ (length self.now.held == 0) }
     {
-        self.held.len() == 0
+        self.held.is_empty()
     }
 
     /// Whether a message is held under a key.
     pub fn has(&self, key: RefKey) -> bool
         ensures { result ≡ is_some (message self.now key) }
     {
-        self.held.contains_key(&key)
+        self.held.get(key).is_some()
     }
 
     /// The message under a key, if one is held. It stays.
     pub fn get(&self, key: RefKey) -> Option<Payload>
         ensures { result ≡ message self.now key }
     {
-        self.held.get(&key).copied()
+        self.held.get(key)
     }
 
     /// Holds a message under its key.
@@ -109,39 +102,18 @@ impl RefQueue {
         ensures left { self.new ≡ without self.old key }
         ensures found { (k : RefKey) → message self.new k ≡ (if same_key key k then None else message self.old k) }
     {
-        self.held.remove(&key)
+        self.held.remove(key)
     }
 
     /// Iterations before `k` are over: their messages go, and no more of them are taken. All else stays. It looks
-    /// at the messages that go and at one more.
+    /// at the messages that go and at a few more.
     pub fn drop_below(&mut self, k: u64)
         requires { self.old.since ≤ k }
         ensures left { self.new ≡ from self.old k }
         ensures found { (key : RefKey) → message self.new key ≡ (if nat_le k key.iteration then message self.old key else None) }
     {
-        drop_before(&mut self.held, k);
+        self.held.drop_before(k);
         self.since = k;
-    }
-}
-
-/// Takes the messages of iterations before `k` out. They come first, so the others aren't looked at.
-fn drop_before(held: &mut BTreeMap<RefKey, Payload>, k: u64)
-    requires { IsStrictlySortedBy key_order (keys_of held.old.entries) }
-    ensures entries { held.new.entries ≡ not_before k held.old.entries }
-    ensures ordered { IsStrictlySortedBy key_order (keys_of held.new.entries) }
-{
-    'entries: while begins_before(held, k) {
-        held.pop_first();
-    }
-}
-
-/// Whether the first message is of an iteration before `k`.
-fn begins_before(held: &BTreeMap<RefKey, Payload>, k: u64) -> bool
-    ensures { result ≡ begins_before k held.now.entries }
-{
-    match held.first_key_value() {
-        Some((key, _)) => key.iteration < k,
-        None => false,
     }
 }
 
@@ -191,8 +163,9 @@ mod tests {
         assert_eq!(rt; queue.now(), 0);
         queue.drop_below(30);
         assert_eq!(rt; queue.now(), 30);
-        assert_eq!(rt; queue.len(), 10);
+        assert!(rt; !queue.has(key(29, 3)));
         assert!(rt; queue.has(key(30, 3)));
+        assert!(rt; queue.has(key(39, 3)));
         assert_eq!(rt;
             queue.put(key(29, 3), one(0)),
             Err(PutFault::Old { now: 30 })
