@@ -418,7 +418,7 @@ module _ (s : Setting) (o : Options) (w : WorldState) (slot : SlotId) (x : SlotS
 
   -- ---- all of it
 
-  over_next : (r q k j : ℕ) → IsOver s r q k j log → IsOver s r q k j now
+  over_next : (r q k j : ℕ) → IsOver r q k j log → IsOver r q k j now
   over_next r q k j h = record {
     share = record { value = h.share.value; there = in_left _ log a.out h.share.there };
     total = record { value = h.total.value; there = in_left _ log a.out h.total.there };

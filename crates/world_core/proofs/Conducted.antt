@@ -1,8 +1,8 @@
 -- An event that the conductor has leaves less of the world.
 use Rattle.std.proofs.Common.{◌≡◌, ℕ, zero, suc, ◌+◌, ◌-◌, ◌*◌, ◌<◌, ◌≤◌, inl, inr, Bool, true, false, cond, List, [], ◌∷◌, ◌++◌, length, map, refl, ap, sym, ◌∙◌, arith, subst, Option, Some, None, IsSome}
-use Rattle.std.specs.Prelude.{◌⊎◌, ◌==◌, ◌&&◌, is_none, is_some, nat_le, nat_lt, not, replicate, slice_get, slice_index_or, slice_set}
-use Rattle.std.specs.List.{list_all, list_any}
-use Rattle.std.proofs.lemmas.Bool.{eq-eqb, eqb-true, ltb-true}
+use Rattle.std.specs.Prelude.{◌==◌, ◌&&◌, is_none, is_some, nat_lt, not, replicate, slice_get, slice_index_or, slice_set}
+use Rattle.std.specs.List.{list_any}
+use Rattle.std.proofs.lemmas.Bool.{ltb-true}
 use Rattle.std.proofs.lemmas.Bool.Decides.{nat_tests}
 use Rattle.std.proofs.lemmas.Option.{same_Some}
 use Rattle.chare_base.specs.declared.options.Options.{Options}
@@ -17,12 +17,11 @@ use Rattle.iteration_agree.specs.Cuts.{CutState, HasSlot, agreed, agreed_on, agr
 use Rattle.iteration_agree.specs.Cuts.{quieted as cut_quieted}
 use Rattle.iteration_agree.specs.Laws.{AgreesUnlessMissing, Misses}
 use Rattle.iteration_agree.specs.Rounds.{number}
-use Rattle.iteration_agree.specs.Slots.{cap_in, opening_slot, sight_of, slot_noted, slot_unnoted}
+use Rattle.iteration_agree.specs.Slots.{cap_in, opening_slot, sight_of, slot_noted}
 use Rattle.iteration_agree.proofs.Changing.{same_slot as same_place}
 use Rattle.letter_post.specs.declared.letter.BoxId.TheVariants as boxes
 use Rattle.letter_post.specs.declared.letter.Letter.{Letter}
 use Rattle.letter_post.specs.declared.letter.Letter.TheVariants as letters
-use Rattle.letter_post.specs.declared.letter.Sent.{Sent}
 use Rattle.node_core.specs.Costs.{node_left, sum, times}
 use Rattle.node_core.proofs.Sums.{sum_append}
 use Rattle.run_ledger.specs.Conditions.{due}
@@ -34,16 +33,15 @@ use Rattle.conductor_core.specs.declared.wants.Phase.{Phase}
 use Rattle.conductor_core.specs.declared.wants.Phase.TheVariants as phases
 use Rattle.conductor_core.specs.Conductors.{ConductorState, Heard, conductor_did, conductor_heard, counts, moved, move_in, nodes_of, silent, wanted, with_note, with_sight, with_verdict}
 use Rattle.conductor_core.specs.Conductors.{sight_of as last_sight}
-use Rattle.conductor_core.specs.Moves.{first_unnoted, gather_move, is_noted, quiet_move, reaches, slot_after, slot_named, slot_or, unnoted_from}
+use Rattle.conductor_core.specs.Moves.{first_unnoted, gather_move, is_noted, reaches, slot_after, slot_named, slot_or, unnoted_from}
 use Rattle.conductor_core.specs.Orders.{letters_to}
-use Rattle.conductor_core.specs.Tells.{IsSlot, MoveFits, MovesFit}
+use Rattle.conductor_core.specs.Tells.{MoveFits, MovesFit}
 use Rattle.world_core.specs.declared.doing.Since.{Since}
 use Rattle.world_core.specs.Costs.{agreed_left, begins_left, desk_left, gather_left, going_left, has_news, letter_left, looks_left, moves_left, release_left, report_left, round_left, rounds_left, see_left, sent_left, slot_left, slots_left, unnoted}
 use Rattle.world_core.specs.Moves.{is_resumed, same_round}
 use Rattle.world_core.specs.Sound.{Sound, names, slot_name}
 use Rattle.world_core.specs.Still.{Afloat, IsPlain}
-use Rattle.world_core.specs.Worlds.{Setting, SlotState, WorldState, after_conductor, again, any_news, conductor_made, did_in, has_cap, in_cut, is_news, number_of, same_cap, saw_in, sight_in, told_by, with_noted}
-use Rattle.world_core.proofs.Due.{first, second}
+use Rattle.world_core.specs.Worlds.{Setting, WorldState, after_conductor, again, any_news, conductor_made, did_in, in_cut, is_news, number_of, same_cap, saw_in, sight_in, told_by, with_noted}
 use Rattle.world_core.proofs.Lowering.{few_names, names_count, report_same}
 use Rattle.world_core.proofs.Mailing.{IsNamed, name_is, own_name, same_slot}
 use Rattle.world_core.proofs.News.{Follows, any_found, looks_kept, looks_lower, looks_most}
@@ -51,7 +49,7 @@ use Rattle.world_core.proofs.Placing.{kept_at}
 use Rattle.world_core.proofs.Quieting.{unnoted_of}
 use Rattle.world_core.proofs.Seen.{name_at, self_equal, some_of}
 use Rattle.world_core.proofs.Settling.{behind, goes_on, settles_on}
-use Rattle.world_core.proofs.Weights.{posted_left, sum_most, sum_same}
+use Rattle.world_core.proofs.Weights.{posted_left, sum_most, sum_same, times_more, times_one}
 
 -- ---- a slot's place, as far as what is left of its moves and its sight go
 
@@ -75,7 +73,7 @@ sight_same round q t same =
     one ∙ ap (λ c. sight_of round (record q { top = t.top; cap = c })) same.cap
 
 -- seeing another round costs one event at most
-see_few : (round : Round) (t : Slot) → see_left round t ≤ 1
+pub see_few : (round : Round) (t : Slot) → see_left round t ≤ 1
 see_few round t = by (same_round t.seen round)
   where
     by : (b : Bool) → cond b 0 1 ≤ 1
@@ -101,18 +99,9 @@ long_map : {A B : Type 0} (f : A → B) (xs : List A) → length (map f xs) ≡ 
 long_map f [] = refl
 long_map f (x ∷ xs) = ap suc (long_map f xs)
 
-times_one : (n : ℕ) → times n 1 ≡ n
-times_one zero = refl
-times_one (suc n) = let rest = times_one n in omega (arith, rest)
-
 times_seven : (n : ℕ) → times n 7 ≡ 7 * n
 times_seven zero = refl
 times_seven (suc n) = let rest = times_seven n in omega (arith, rest)
-
-times_more : (a b r : ℕ) → a ≤ b → times a r ≤ times b r
-times_more zero b r less = omega arith
-times_more (suc a) zero r less = absurd (omega (arith, less))
-times_more (suc a) (suc b) r less = let rest = times_more a b r (omega (arith, less)) in omega (arith, rest)
 
 to_all : (s : Setting) (r n : ℕ) (letter : Letter) → sum (sent_left s.plan s.place) (letters_to r letter n) ≡ times n (letter_left s.plan s.place letter)
 to_all s r zero letter = refl
@@ -160,6 +149,13 @@ same_cap_self (Some n) = self_equal n
 -- what was just seen is no news
 not_news : (sight : Sight) → is_news (Some sight) sight ≡ false
 not_news sight = ap (λ b. not (b && same_cap sight.cap sight.cap)) (self_equal sight.top) ∙ ap (λ b. not b) (same_cap_self sight.cap)
+
+-- at most a look at each place, to each place
+pub looks_most_left : (cut : CutState) (c : ConductorState) → looks_left cut c ≤ times (cut.nodes + cut.nodes) (cut.nodes + cut.nodes)
+unfolding looks_left
+looks_most_left cut c =
+    let long = long_map (has_news cut c) (names cut.nodes) ∙ names_count cut.nodes in
+    subst (λ l. looks_left cut c ≤ times l (cut.nodes + cut.nodes)) long (looks_most (cut.nodes + cut.nodes) (slot_place cut.nodes c.next_look) 0 (map (has_news cut c) (names cut.nodes)) (omega (arith, long)))
 
 -- ---- places
 
@@ -580,9 +576,8 @@ module _ (s : Setting) (o : Options) (plain : IsPlain s o) (fit : MovesFit) (w :
         omega (arith, one, two, three, wa, wb, we, wf, fours, twos)
 
     looks_quiet : looks_left quiet_cut next.conductor ≤ times n n
-    unfolding looks_left cut_quieted
-    looks_quiet = subst (λ l. looks_left quiet_cut next.conductor ≤ times l n) (long_map (has_news quiet_cut next.conductor) (names w.cut.nodes) ∙ names_count w.cut.nodes)
-        (looks_most n (slot_place w.cut.nodes next.conductor.next_look) 0 (map (has_news quiet_cut next.conductor) (names w.cut.nodes)) (let a = long_map (has_news quiet_cut next.conductor) (names w.cut.nodes) in let b = names_count w.cut.nodes in omega (arith, a, b)))
+    unfolding cut_quieted
+    looks_quiet = looks_most_left quiet_cut next.conductor
 
     pub quiet_lowers : going_left s (did_in s (conductor_did s.plan s.place answers.Nothing c) (in_cut s.plan quiet_cut w)) < going_left s w
     quiet_lowers = subst (λ h. going_left s (did_in s h (in_cut s.plan quiet_cut w)) < going_left s w) (sym (settles_on s o plain w sound afloat equal k at is goes))

@@ -1,17 +1,14 @@
 -- Every event that an actor has leaves less, so every schedule ends its run.
-use Rattle.std.proofs.Common.{◌≡◌, ℕ, zero, suc, ◌+◌, ◌*◌, ◌<◌, ◌≤◌, inl, inr, Bool, true, false, cond, List, [], ◌∷◌, length, refl, ap, sym, ◌∙◌, arith, subst, Option, Some, None, IsSome}
-use Rattle.std.specs.Prelude.{◌⊎◌, ◌-◌, ◌/◌, ◌^◌, ◌&&◌, is_some, nat_lt, slice_get}
+use Rattle.std.proofs.Common.{◌≡◌, ℕ, zero, suc, ◌+◌, ◌*◌, ◌<◌, ◌≤◌, Bool, true, false, cond, List, [], ◌∷◌, length, refl, ap, sym, ◌∙◌, arith, subst, Option, Some, None, IsSome}
+use Rattle.std.specs.Prelude.{◌-◌, ◌/◌, ◌^◌, is_some, nat_lt, slice_get}
 use Rattle.std.specs.List.{AllByRecursion}
-use Rattle.std.proofs.lemmas.Bool.{ltb-true}
 use Rattle.std.proofs.lemmas.Bool.Decides.{nat_tests}
 use Rattle.std.proofs.lemmas.Nat.{mod_below}
 use Rattle.std.proofs.lemmas.Option.{same_Some}
 use Rattle.chare_base.specs.declared.options.Options.{Options}
-use Rattle.chare_base.specs.declared.plan.Plan.{Plan}
 use Rattle.chare_base.specs.declared.slots.SlotId.{SlotId}
 use Rattle.buddy_compare.specs.Laws.{EqualExactly}
 use Rattle.iteration_agree.specs.declared.round.Taking.TheVariants as takings
-use Rattle.iteration_agree.specs.Cuts.{quieted}
 use Rattle.iteration_agree.specs.Laws.{AgreesUnlessMissing}
 use Rattle.letter_post.specs.declared.letter.Letter.{Letter}
 use Rattle.node_core.specs.Costs.{FirstRuns, HearsLower, PacksLower, RunsLower}
@@ -34,7 +31,7 @@ use Rattle.world_core.specs.declared.event.Event.TheVariants as events
 use Rattle.world_core.specs.Costs.{EveryEventLowers, EveryScheduleEnds, going_left, world_left}
 use Rattle.world_core.specs.Sound.{EveryEventKeeps, Sound, StartIsSound}
 use Rattle.world_core.specs.Still.{Afloat, EveryEventKeepsAfloat, IsPlain, IsStill, NoStandstill, StartIsAfloat}
-use Rattle.world_core.specs.Worlds.{Setting, SlotState, WorldState, actor_at, actor_event, after_slot, any_news, by_slot, chosen_of, conductor_due, conductor_made, conductor_moved, desk_event, did_in, does, drawn, enabled, event_at, event_of, first_above, first_or, goes_on, happens, has_cap, has_slot, in_cut, move_due, number_of, opening_world, picked, picked_by, picked_event, reached, ready_actors, ready_from, sight_in, slot_at, slot_doing, slot_event, stirred, takes_move, told_by}
+use Rattle.world_core.specs.Worlds.{Setting, SlotState, WorldState, actor_at, actor_event, after_slot, by_slot, chosen_of, conductor_due, conductor_made, desk_event, does, drawn, enabled, event_at, event_of, first_above, first_or, goes_on, happens, move_due, number_of, opening_world, picked, picked_by, picked_event, reached, ready_actors, ready_from, slot_at, slot_doing, slot_event, stirred, takes_move, told_by}
 use Rattle.world_core.proofs.Conducted.{agree_lowers, heard_lowers, look_lowers, note_lowers, open_lowers, quiet_lowers}
 use Rattle.world_core.proofs.Due.{first, second}
 use Rattle.world_core.proofs.Happening.{agreed_phase}

@@ -44,7 +44,7 @@ pub mod Marking
 pub mod Agreeing
 pub mod Settling
 pub mod Completing
-pub mod Oversent
+pub mod EarlierSent
 pub mod Quieting
 pub mod Happening
 pub mod Reached
@@ -54,3 +54,8 @@ pub mod Weights
 pub mod Lowering
 pub mod Conducted
 pub mod Ended
+pub mod Widths
+pub mod RoundCosts
+pub mod StartLeft
+pub mod Limited
+pub mod Sufficient

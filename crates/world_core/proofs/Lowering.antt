@@ -1,16 +1,14 @@
 -- An event that a slot has leaves less of the world.
-use Rattle.std.proofs.Common.{◌≡◌, ℕ, zero, suc, ◌+◌, ◌-◌, ◌*◌, ◌<◌, ◌≤◌, inl, inr, Bool, true, false, cond, List, [], ◌∷◌, ◌++◌, length, map, refl, ap, sym, ◌∙◌, arith, subst, Option, Some, None}
-use Rattle.std.specs.Prelude.{◌⊎◌, ◌==◌, ◌&&◌, IfSome, is_none, max, nat_le, not, slice_get}
+use Rattle.std.proofs.Common.{◌≡◌, ℕ, suc, ◌+◌, ◌-◌, ◌<◌, ◌≤◌, inl, inr, Bool, true, false, cond, List, [], ◌∷◌, ◌++◌, length, refl, ap, sym, ◌∙◌, arith, subst, Option, Some, None}
+use Rattle.std.specs.Prelude.{◌⊎◌, ◌==◌, ◌&&◌, is_none, max, not, slice_get}
 use Rattle.std.specs.List.{filter}
 use Rattle.std.proofs.lemmas.Bool.{eq-eqb}
 use Rattle.std.proofs.lemmas.Option.{same_Some}
 use Rattle.chare_base.specs.declared.options.Options.{Options}
 use Rattle.chare_base.specs.declared.plan.ElementId.{ElementId}
 use Rattle.chare_base.specs.declared.plan.Plan.{Plan}
-use Rattle.chare_base.specs.declared.slots.LineSet.{LineSet}
 use Rattle.chare_base.specs.declared.slots.SlotId.{SlotId}
 use Rattle.fault_script.specs.declared.fault.Fault.{Fault}
-use Rattle.iteration_agree.specs.declared.round.Leave.TheVariants as leaves
 use Rattle.iteration_agree.specs.declared.round.Round.{Round}
 use Rattle.iteration_agree.specs.declared.round.Round.TheVariants as rounds
 use Rattle.iteration_agree.specs.declared.slot.Slot.{Slot}
@@ -20,21 +18,17 @@ use Rattle.iteration_agree.specs.Slots.{cap_in, sight_of, slot_begun, slot_packe
 use Rattle.iteration_agree.proofs.Changing.{at_or_away, moved_here}
 use Rattle.letter_post.specs.declared.letter.Letter.{Letter}
 use Rattle.letter_post.specs.declared.letter.Letter.TheVariants as letters
-use Rattle.letter_post.specs.declared.letter.Sent.{Sent}
 use Rattle.letter_post.specs.Orders.{Order, order_of}
 use Rattle.letter_post.specs.Orders as orders
-use Rattle.pup_state.specs.declared.piece.Piece.{Piece}
 use Rattle.node_core.specs.Costs.{FirstRuns, HearsLower, PacksLower, Runs, RunsLower, body_left, gathering_left, left_by, node_left, outcome_left, sum, times, totals_left}
-use Rattle.node_core.specs.Gatherings.{Gathering}
 use Rattle.node_core.specs.Mail.{HearsMove, PacksMove, RunsMove}
 use Rattle.node_core.specs.Nodes.{Body, NodeState, Outcome, first_running, is_from, node_heard, node_heard_as, node_heard_by, node_packed, node_ran, outcome_of}
-use Rattle.node_core.proofs.Sums.{sum_append}
 use Rattle.conductor_core.specs.Conductors.{sight_of as last_sight}
 use Rattle.world_core.specs.declared.doing.Since.{Since}
-use Rattle.world_core.specs.declared.doing.Since.TheVariants.{Nothing, Ordered, Resumed}
+use Rattle.world_core.specs.declared.doing.Since.TheVariants.{Nothing}
 use Rattle.world_core.specs.declared.doing.SlotMove.{SlotMove}
 use Rattle.world_core.specs.declared.doing.SlotMove.TheVariants as slot_moves
-use Rattle.world_core.specs.Costs.{begins_left, going_left, has_news, letter_left, looks_left, moves_left, release_left, report_left, see_left, sent_left, slot_left}
+use Rattle.world_core.specs.Costs.{begins_left, going_left, has_news, letter_left, looks_left, moves_left, release_left, report_left, see_left, slot_left}
 use Rattle.world_core.specs.declared.doing.Doing.{Doing}
 use Rattle.world_core.specs.declared.doing.Doing.TheVariants as doings
 use Rattle.world_core.specs.Moves.{is_below, is_resumed, limit_of, release_due, report_due, same_round}
@@ -51,7 +45,7 @@ use Rattle.world_core.proofs.Mailing.{IsNamed, name_is, names_long, own_name, pl
 use Rattle.world_core.proofs.News.{looks_kept, looks_one}
 use Rattle.world_core.proofs.Packing.{free as free_to_pack}
 use Rattle.world_core.proofs.Placing.{old as placed}
-use Rattle.world_core.proofs.Resuming.{base_body, based, goes_on}
+use Rattle.world_core.proofs.Resuming.{based, goes_on}
 use Rattle.world_core.proofs.Running.{old}
 use Rattle.world_core.proofs.Seen.{and_false, self_equal}
 use Rattle.world_core.proofs.Timely.{IsTimely, goes, timely}

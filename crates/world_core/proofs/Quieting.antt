@@ -1,6 +1,6 @@
 -- A round that the conductor makes quiet loses nothing: it accepts the checkpoint, and orders all slots to go on from there.
-use Rattle.std.proofs.Common.{◌≡◌, ℕ, zero, suc, ◌+◌, ◌<◌, ◌≤◌, inl, inr, Bool, true, false, cond, List, [], ◌∷◌, ◌++◌, length, map, refl, ap, sym, ◌∙◌, arith, subst, Option, Some, None, IsSome}
-use Rattle.std.specs.Prelude.{◌⊎◌, ◌==◌, ◌&&◌, IfSome, is_none, replicate, slice_get, slice_index_or}
+use Rattle.std.proofs.Common.{◌≡◌, ℕ, zero, suc, ◌+◌, ◌<◌, ◌≤◌, inl, inr, true, false, List, [], ◌∷◌, ◌++◌, length, map, refl, ap, sym, ◌∙◌, arith, subst, Option, Some, None, IsSome}
+use Rattle.std.specs.Prelude.{◌⊎◌, ◌==◌, IfSome, is_none, replicate, slice_get, slice_index_or}
 use Rattle.std.specs.List.{AllByRecursion}
 use Rattle.std.proofs.lemmas.Bool.{eqb-true}
 use Rattle.chare_base.specs.declared.options.Options.{Options}
@@ -8,7 +8,6 @@ use Rattle.chare_base.specs.declared.plan.Reduction.{Reduction}
 use Rattle.chare_base.specs.declared.slots.LineSet.{LineSet}
 use Rattle.chare_base.specs.declared.slots.SlotId.{SlotId}
 use Rattle.chare_base.specs.Elements.{place_of}
-use Rattle.chare_base.specs.Entries.{reduction_of}
 use Rattle.chare_base.specs.declared.message.Port.TheVariants as ports
 use Rattle.buddy_compare.specs.Laws.{EqualExactly}
 use Rattle.iteration_agree.specs.declared.slot.Cap.{Cap}
@@ -30,7 +29,7 @@ use Rattle.object_steps.specs.Objects.{Progress}
 use Rattle.pup_state.specs.declared.piece.Piece.{Piece}
 use Rattle.run_ledger.specs.Ledgers.{live_set}
 use Rattle.node_core.specs.Keeps.{Alive, AllAt}
-use Rattle.node_core.specs.Mail.{BodyDid, Did, Got, In, Owes, TotalWasSent, TotalsWereSent, reduction_id}
+use Rattle.node_core.specs.Mail.{BodyDid, Did, Got, In, Owes, TotalsWereSent, reduction_id}
 use Rattle.node_core.specs.Nodes.{Body}
 use Rattle.node_core.specs.Rosters.{node_count, sharers_of}
 use Rattle.node_core.specs.Turns.{is_at}
@@ -49,15 +48,15 @@ use Rattle.conductor_core.specs.Orders.{letters_to}
 use Rattle.conductor_core.specs.Tells.{mail_to, verdict_at}
 use Rattle.conductor_core.proofs.Sending.{ordered_first, ordered_second}
 use Rattle.world_core.specs.Sound.{SlotSound, Sound}
-use Rattle.world_core.specs.Still.{Accepted, Afloat, Arrived, Arrives, Backed, Compared, Earlier, IsOver, IsPacked, IsPlain, Pair, SlotAfloat, Stage, Told, orders_in, pieces_in, plain_stamp, present, present_in}
+use Rattle.world_core.specs.Still.{Accepted, Afloat, Arrived, Arrives, Backed, Earlier, IsPacked, IsPlain, Pair, SlotAfloat, Stage, Told, orders_in, pieces_in, plain_stamp, present, present_in}
 use Rattle.world_core.specs.Worlds.{Setting, SlotState, WorldState, again, did_in, in_cut, number_of, slot_at}
 use Rattle.world_core.proofs.Accepting.{sharers_within}
 use Rattle.world_core.proofs.Carrying.{desk_backed, orders_both, put_pieces}
 use Rattle.world_core.proofs.Completing.{all_packed, none_behind, none_left}
-use Rattle.world_core.proofs.Due.{first, second}
+use Rattle.world_core.proofs.Due.{second}
 use Rattle.world_core.proofs.Lists.{all_got, all_joined, all_to, get_unmapped}
 use Rattle.world_core.proofs.Mailing.{Is, IsNamed, found, place_is, slot_is}
-use Rattle.world_core.proofs.Oversent.{over_all, over_has, over_sent, share_sent, total_sent}
+use Rattle.world_core.proofs.EarlierSent.{over_all, over_has, over_sent, share_sent, total_sent}
 use Rattle.world_core.proofs.Posting.{From, Put, desk_of, posted_at, posted_desk}
 use Rattle.world_core.proofs.Settling.{behind, beside_next, first_is, goes_on, second_is}
 
@@ -289,7 +288,7 @@ module _ (s : Setting) (o : Options) (plain : IsPlain s o) (w : WorldState) (sou
         each [] h = tt
         each (n ∷ more) h =
             let below : n < s.nodes = let a = h.0 in let count = count_covered s.place s.nodes plain.placed.covers in omega (arith, a, count) in
-            ((over_has s.nodes (length s.plan.reductions) k s afloat.log y.node.slot.replica q j n few few_q early below).total, each more h.1)
+            ((over_has s.nodes (length s.plan.reductions) k afloat.log y.node.slot.replica q j n few few_q early below).total, each more h.1)
 
         within : (red : Reduction) → AllByRecursion (λ n. n < node_count s.place) (sharers_of y.node.roster red.owner)
         within red = subst (λ n. AllByRecursion (λ m. m < node_count s.place) (sharers_of n.roster red.owner)) (sym b.put.node)
@@ -384,7 +383,7 @@ module _ (s : Setting) (o : Options) (plain : IsPlain s o) (w : WorldState) (sou
       arrived = all_joined (Arrived s log next) afloat.log extra (all_to (Arrived s afloat.log w) (Arrived s log next) afloat.log (λ sent h. arrives_next sent.letter sent.to h) afloat.arrived) (over_all s.nodes (length s.plan.reductions) k (Arrived s log next) over_arrives);
       backed = all_joined (λ (sent : Sent). Backed s next sent.letter) afloat.log extra (all_to (λ (sent : Sent). Backed s w sent.letter) (λ (sent : Sent). Backed s next sent.letter) afloat.log (λ sent h. backed_next sent.letter h) afloat.backed)
           (over_all s.nodes (length s.plan.reductions) k (λ (sent : Sent). Backed s next sent.letter) (λ r q j m hr hq hj hm. (tt, tt)));
-      over = λ r q j m hr hq hj hm. over_has s.nodes (length s.plan.reductions) k s afloat.log r q j m hr hq hj hm;
+      over = λ r q j m hr hq hj hm. over_has s.nodes (length s.plan.reductions) k afloat.log r q j m hr hq hj hm;
       slots = slots_next;
       pairs = pair_next;
       desk = subst (AllByRecursion (Backed s next)) (sym desk_next) (all_joined (Backed s next) w.posts.desk (desk_of h.out) (all_to (Backed s w) (Backed s next) w.posts.desk backed_next afloat.desk) (desk_backed s next h.out out_backed));

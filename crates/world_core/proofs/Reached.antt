@@ -1,5 +1,5 @@
 -- Every world that is reached without faults is afloat until its run ends, so it stands still only then.
-use Rattle.std.proofs.Common.{◌≡◌, cond, List, [], ◌∷◌, refl, ap, sym, ◌∙◌, subst, Option, Some, None, IsSome}
+use Rattle.std.proofs.Common.{◌≡◌, cond, List, [], ◌∷◌, refl, ap, sym, ◌∙◌, Option, Some, None, IsSome}
 use Rattle.std.specs.Prelude.{is_some}
 use Rattle.chare_base.specs.declared.options.Options.{Options}
 use Rattle.chare_base.specs.declared.slots.SlotId.{SlotId}
@@ -10,7 +10,7 @@ use Rattle.world_core.specs.declared.doing.Doing.TheVariants as doings
 use Rattle.world_core.specs.declared.event.Event.{Event}
 use Rattle.world_core.specs.declared.event.Event.TheVariants as events
 use Rattle.world_core.specs.Sound.{EveryEventKeeps, EveryWorldIsSound, Sound, StartIsSound}
-use Rattle.world_core.specs.Still.{Afloat, EveryEventKeepsAfloat, EveryWorldStaysAfloat, IsPlain, IsStill, NeverStandsStill, NoStandstill, StartIsAfloat}
+use Rattle.world_core.specs.Still.{Afloat, EveryEventKeepsAfloat, EveryWorldStaysAfloat, IsPlain, NeverStandsStill, NoStandstill, StartIsAfloat}
 use Rattle.world_core.specs.Worlds.{Acted, Setting, SlotState, WorldState, by_slot, conductor_moved, does, happens, opening_world, reached, slot_at}
 use Rattle.world_core.proofs.Happening.{heard_outcome}
 

@@ -1,7 +1,6 @@
 -- What is left of a world after an event of one slot.
-use Rattle.std.proofs.Common.{◌≡◌, ℕ, zero, suc, ◌+◌, ◌<◌, ◌≤◌, Bool, true, false, List, [], ◌∷◌, ◌++◌, length, refl, ap, sym, ◌∙◌, arith, subst, Option, Some, None}
+use Rattle.std.proofs.Common.{◌≡◌, ℕ, zero, suc, ◌+◌, ◌<◌, ◌≤◌, List, [], ◌∷◌, length, refl, ap, arith, Option, Some, None}
 use Rattle.std.specs.Prelude.{slice_get, slice_set}
-use Rattle.std.specs.List.{AllByRecursion}
 use Rattle.std.proofs.lemmas.Option.{same_Some}
 use Rattle.chare_base.specs.declared.slots.SlotId.{SlotId}
 use Rattle.iteration_agree.specs.Cuts.{CutState}
@@ -16,7 +15,7 @@ use Rattle.node_core.specs.Costs.{sent_weight, sum, times, weight}
 use Rattle.node_core.proofs.Sums.{sum_append, sum_set}
 use Rattle.world_core.specs.Costs.{desk_left, going_left, letter_left, looks_left, sent_left, slot_left, slots_left}
 use Rattle.world_core.specs.Worlds.{Acted, Posts, Setting, SlotState, WorldState, after_slot, number_of, posted, put_by, put_in, slot_at, slot_put}
-use Rattle.world_core.proofs.Mailing.{Is, slot_is}
+use Rattle.world_core.proofs.Mailing.{slot_is}
 use Rattle.world_core.proofs.Unordered.{NoOrders}
 
 -- ---- sums
@@ -41,6 +40,15 @@ sum_others f g (z ∷ xs) (suc i) x y h same =
     let here = same 0 z refl (λ e. absurd (omega (arith, e))) in
     let rest = sum_others f g xs i x y h (λ m q there apart. same (suc m) q there (λ e. apart (omega (arith, e)))) in
     omega (arith, here, rest)
+
+pub times_one : (n : ℕ) → times n 1 ≡ n
+times_one zero = refl
+times_one (suc n) = let rest = times_one n in omega (arith, rest)
+
+pub times_more : (a b r : ℕ) → a ≤ b → times a r ≤ times b r
+times_more zero b r less = omega arith
+times_more (suc a) zero r less = absurd (omega (arith, less))
+times_more (suc a) (suc b) r less = let rest = times_more a b r (omega (arith, less)) in omega (arith, rest)
 
 -- ---- letters that are no orders
 

@@ -1,8 +1,9 @@
 -- What a run without faults can still do, at most: how many events are left.
-use Rattle.std.specs.Prelude.{◌≡◌, ℕ, zero, suc, ◌+◌, ◌-◌, ◌<◌, ◌≤◌, Bool, true, false, not, ◌&&◌, nat_le, if◌then◌else◌, is_none, is_some, IsSome, List, [], ◌∷◌, map, length, Option, Some, None}
+use Rattle.std.specs.Prelude.{◌≡◌, ℕ, suc, ◌+◌, ◌-◌, ◌<◌, ◌≤◌, Bool, not, ◌&&◌, nat_le, if◌then◌else◌, is_none, is_some, IsSome, List, [], ◌∷◌, map, Some}
 use Rattle.chare_base.specs.declared.options.Options.{Options}
 use Rattle.chare_base.specs.declared.plan.Plan.{Plan}
 use Rattle.chare_base.specs.declared.slots.SlotId.{SlotId}
+use Rattle.chare_base.specs.Elements.{elements}
 use Rattle.iteration_agree.specs.Cuts.{CutState, slot_of, slot_place}
 use Rattle.iteration_agree.specs.Slots.{cap_in}
 use Rattle.iteration_agree.specs.declared.round.Round.{Round}
@@ -20,6 +21,8 @@ use Rattle.world_core.specs.declared.doing.Since.{Since}
 use Rattle.world_core.specs.declared.event.Actor.{Actor}
 use Rattle.world_core.specs.declared.event.Chooser.{Chooser}
 use Rattle.world_core.specs.declared.event.Event.{Event}
+use Rattle.world_core.specs.Bounds.{capped, turns_bound}
+use Rattle.world_core.specs.Drills.{drilled}
 use Rattle.world_core.specs.Moves.{is_resumed, same_round}
 use Rattle.world_core.specs.Sound.{Sound, names}
 use Rattle.world_core.specs.Still.{Afloat, IsPlain}
@@ -144,3 +147,11 @@ EveryEventLowers = (s : Setting) (o : Options) (w : WorldState) (actor : Actor) 
 abbrev pub EveryScheduleEnds : Type 0
 EveryScheduleEnds = (s : Setting) (o : Options) (chooser : Chooser) (turns : ℕ) → IsPlain s o → world_left s (opening_world s o) ≤ turns →
     IsSome (reached s (opening_world s o) (picked s turns chooser (opening_world s o))).conductor.outcome
+
+-- the turns that a schedule has, for a script without lines
+abbrev pub TurnsSuffice : Type 0
+TurnsSuffice = (s : Setting) (o : Options) → IsPlain s o → world_left s (opening_world s o) ≤ capped (turns_bound s.plan 0 s.nodes)
+
+-- so every drill of such a script comes to the end of its run
+abbrev pub DrillsEnd : Type 0
+DrillsEnd = (p : Plan) (o : Options) (schedule : ℕ) → 1 ≤ o.nodes → o.nodes ≤ elements p → o.nodes ≤ 32 → 1 ≤ o.every → IsSome (drilled p [] o schedule).conductor.outcome

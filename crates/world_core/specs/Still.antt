@@ -287,7 +287,7 @@ pub record Beside (s : Setting) (cut : CutState) (c : ConductorState) : Type 0 w
 -- ---- the world
 
 -- What is over counts as sent: all shares and totals of iterations before the base.
-pub record IsOver (s : Setting) (r x k j : ℕ) (log : List Sent) : Type 0 where
+pub record IsOver (r x k j : ℕ) (log : List Sent) : Type 0 where
   pub share : PartialWasSent (plain_stamp r) x k j log
   pub total : TotalWasSent (plain_stamp r) x k log j
 
@@ -296,7 +296,7 @@ pub record Afloat (s : Setting) (w : WorldState) : Type 0 where
   pub log : List Sent
   pub arrived : AllByRecursion (Arrived s log w) log
   pub backed : AllByRecursion (λ (sent : Sent). Backed s w sent.letter) log
-  pub over : (r x k j : ℕ) → r ≤ 1 → x < length s.plan.reductions → k < w.conductor.ledger.base → j < s.nodes → IsOver s r x k j log
+  pub over : (r x k j : ℕ) → r ≤ 1 → x < length s.plan.reductions → k < w.conductor.ledger.base → j < s.nodes → IsOver r x k j log
   pub slots : AllByRecursion (SlotAfloat s w.cut w.conductor log) w.posts.slots
   pub pairs : (j : ℕ) → j < s.nodes → Pair s w j
   -- what it has heard, and is to hear, is of pieces that are there

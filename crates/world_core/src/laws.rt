@@ -1,6 +1,6 @@
 //! Laws of the world: each is called where it is wanted, and its clauses are facts from there on.
 
-ghost use Rattle.world_core.specs.Costs.{EveryEventLowers, EveryScheduleEnds};
+ghost use Rattle.world_core.specs.Costs.{DrillsEnd, EveryEventLowers, EveryScheduleEnds, TurnsSuffice};
 ghost use Rattle.world_core.specs.Drills.{DrillsWait};
 ghost use Rattle.world_core.specs.Sound.{EveryEventKeeps, EveryWorldIsSound, EveryWorldWaits, SoundServes, StartIsSound};
 ghost use Rattle.world_core.specs.Still.{EveryEventKeepsAfloat, EveryWorldStaysAfloat, NeverStandsStill, NoStandstill, StartIsAfloat};
@@ -95,4 +95,14 @@ pub fn schedules_end()
     moves_fit_the_round();
     agreement_is_exact();
     equal_exactly();
+}
+
+/// Where no fault is to come the turns of a schedule are as many as what is left at the start. So a drill of a script
+/// without lines ends its run, whatever its schedule.
+pub fn drills_end()
+    ensures turns { TurnsSuffice }
+    ensures drills { DrillsEnd }
+{
+    nodes_cost();
+    schedules_end();
 }

@@ -6,11 +6,10 @@ use Rattle.std.proofs.lemmas.Bool.{eqb-true}
 use Rattle.std.proofs.lemmas.Bool.Decides.{nat_tests}
 use Rattle.letter_post.specs.declared.letter.Letter.TheVariants as letters
 use Rattle.letter_post.specs.declared.letter.Sent.{Sent}
-use Rattle.node_core.specs.Mail.{In, PartialWasSent, TotalWasSent, reduction_id}
+use Rattle.node_core.specs.Mail.{In, reduction_id}
 use Rattle.node_core.specs.Nodes.{to_slot}
 use Rattle.node_core.proofs.Within.{in_left, in_right}
 use Rattle.world_core.specs.Still.{IsOver, plain_stamp}
-use Rattle.world_core.specs.Worlds.{Setting}
 use Rattle.world_core.proofs.Lists.{all_joined}
 
 -- ---- lists one behind another
@@ -61,8 +60,8 @@ module _ (nodes reductions k : ℕ) where
       (listed_has (λ j. listed (λ m. at_node r x j m) nodes) k j sent hj
       (listed_has (λ m. at_node r x j m) nodes m sent hm h)))
 
-  pub over_has : (s : Setting) (log : List Sent) (r x j m : ℕ) → r ≤ 1 → x < reductions → j < k → m < nodes → IsOver s r x j m (log ++ over_sent nodes reductions k)
-  over_has s log r x j m hr hx hj hm = record {
+  pub over_has : (log : List Sent) (r x j m : ℕ) → r ≤ 1 → x < reductions → j < k → m < nodes → IsOver r x j m (log ++ over_sent nodes reductions k)
+  over_has log r x j m hr hx hj hm = record {
     share = record { value = pos 0; there = in_right (share_sent r x j m) log (over_sent nodes reductions k) (in_over r x j m (share_sent r x j m) hr hx hj hm (inl refl)) };
     total = record { value = pos 0; there = in_right (total_sent r x j m) log (over_sent nodes reductions k) (in_over r x j m (total_sent r x j m) hr hx hj hm (inr (inl refl))) };
   }
