@@ -35,14 +35,10 @@ use Rattle.world_core.specs.Sound.{SlotSound, Sound}
 use Rattle.world_core.specs.Still.{Afloat, Committed, Earlier, Freed, IsAccepted, IsCommitted, IsPhase, IsPlain, SlotAfloat, orders_in, pieces_in, plain_stamp, present}
 use Rattle.world_core.specs.Worlds.{Setting, SlotState, WorldState, acted, number_of, ordered_after, resumed_after, slot_at}
 use Rattle.world_core.proofs.Floating.{PlainStep}
-use Rattle.world_core.proofs.Lists.{all_behind, all_got}
+use Rattle.world_core.proofs.Lists.{all_behind, all_got, append_nil}
 use Rattle.world_core.proofs.Mailing.{IsNamed, place_is, slot_is}
 use Rattle.world_core.proofs.Resuming.{based, base_body, commit_did, commit_is, commit_owes, goes_on, resume_did, resume_is, resume_owes}
 use Rattle.world_core.proofs.Seen.{both_true, got_in, some_of}
-
-append_nil : {A : Type 0} (xs : List A) → xs ++ [] ≡ xs
-append_nil [] = refl
-append_nil (x ∷ xs) = ap (λ l. x ∷ l) (append_nil xs)
 
 -- ---- sharers are nodes
 

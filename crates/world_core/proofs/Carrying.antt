@@ -36,7 +36,7 @@ use Rattle.world_core.specs.Sound.{Sound, slot_name}
 use Rattle.world_core.specs.Still.{Afloat, Accepted, Arrived, Arrives, Backed, Beside, Committed, Compared, Earlier, Free, Freed, HasPacked, IsOver, IsPhase, IsThere, OnItsWay, Packed, Pair, Passes, SlotAfloat, Stage, Unsent, orders_in, pieces_in, plain_stamp, present, present_in}
 use Rattle.world_core.specs.Worlds.{Acted, Posts, Setting, SlotState, WorldState, after_slot, number_of, slot_at, with_slot}
 use Rattle.world_core.proofs.Due.{first, second}
-use Rattle.world_core.proofs.Lists.{all_got, all_joined, all_to, get_unmapped}
+use Rattle.world_core.proofs.Lists.{all_got, all_joined, all_to, append_nil, get_unmapped}
 use Rattle.world_core.proofs.Mailing.{IsNamed, found, own_name, place_is, same_slot, slot_is}
 use Rattle.world_core.proofs.Posting.{From, Put, desk_of, to_desk, posted_at, posted_desk, slot_after, slot_changed}
 use Rattle.world_core.proofs.Seen.{name_at, some_of}
@@ -65,10 +65,6 @@ pieces_both (letters.Commit stamp k live ∷ xs) ys = pieces_both xs ys
 pieces_both (letters.Resume stamp ∷ xs) ys = pieces_both xs ys
 pieces_both (letters.Died stamp slot line ∷ xs) ys = pieces_both xs ys
 pieces_both (letters.Stop ∷ xs) ys = pieces_both xs ys
-
-pub append_nil : {A : Type 0} (xs : List A) → xs ++ [] ≡ xs
-append_nil [] = refl
-append_nil (x ∷ xs) = ap (λ l. x ∷ l) (append_nil xs)
 
 pub put_pieces : (x y : SlotState) (more : List Letter) → Put x more y → pieces_in more ≡ [] → pieces_in y.box ≡ pieces_in x.box
 put_pieces x y more put none = ap pieces_in put.box ∙ pieces_both x.box more ∙ ap (λ l. pieces_in x.box ++ l) none ∙ append_nil (pieces_in x.box)

@@ -49,7 +49,8 @@ use Rattle.world_core.proofs.Placing.{kept_at}
 use Rattle.world_core.proofs.Quieting.{unnoted_of}
 use Rattle.world_core.proofs.Seen.{name_at, self_equal, some_of}
 use Rattle.world_core.proofs.Settling.{behind, goes_on, settles_on}
-use Rattle.world_core.proofs.Weights.{posted_left, sum_most, sum_same, times_more, times_one}
+use Rattle.world_core.proofs.Weights.{posted_left, sum_mapped, sum_most, sum_same, times_more, times_one}
+use Rattle.world_core.proofs.Lists.{long_map}
 
 -- ---- a slot's place, as far as what is left of its moves and its sight go
 
@@ -90,14 +91,6 @@ report_few places (rounds.Gather r f) t = by (is_none (cap_in r t.cap))
     by false = omega arith
 
 -- ---- numbers
-
-sum_mapped : {A B : Type 0} (f : B → ℕ) (g : A → B) (xs : List A) → sum f (map g xs) ≡ sum (λ x. f (g x)) xs
-sum_mapped f g [] = refl
-sum_mapped f g (x ∷ xs) = let rest = sum_mapped f g xs in omega (arith, rest)
-
-long_map : {A B : Type 0} (f : A → B) (xs : List A) → length (map f xs) ≡ length xs
-long_map f [] = refl
-long_map f (x ∷ xs) = ap suc (long_map f xs)
 
 times_seven : (n : ℕ) → times n 7 ≡ 7 * n
 times_seven zero = refl

@@ -1,5 +1,5 @@
 -- An event that a slot has leaves less of the world.
-use Rattle.std.proofs.Common.{◌≡◌, ℕ, suc, ◌+◌, ◌-◌, ◌<◌, ◌≤◌, inl, inr, Bool, true, false, cond, List, [], ◌∷◌, ◌++◌, length, refl, ap, sym, ◌∙◌, arith, subst, Option, Some, None}
+use Rattle.std.proofs.Common.{◌≡◌, ℕ, suc, ◌+◌, ◌-◌, ◌<◌, ◌≤◌, inl, inr, Bool, true, false, cond, List, [], ◌∷◌, length, refl, ap, sym, ◌∙◌, arith, subst, Option, Some, None}
 use Rattle.std.specs.Prelude.{◌⊎◌, ◌==◌, ◌&&◌, is_none, max, not, slice_get}
 use Rattle.std.specs.List.{filter}
 use Rattle.std.proofs.lemmas.Bool.{eq-eqb}
@@ -36,11 +36,11 @@ use Rattle.world_core.specs.Sound.{SlotSound, Sound, names, names_to}
 use Rattle.world_core.specs.Still.{Afloat, IsAccepted, IsCommitted, IsPlain, SlotAfloat, orders_in}
 use Rattle.world_core.specs.Worlds.{Acted, Setting, SlotState, WorldState, acted, after_slot, again, back_after, does, doing_of, is_news, move_or_run, moved_in, number_of, ordered_after, resumed_after, run_due, run_of, since_after, slot_at, slot_doing, slot_heard, slot_move, slot_moved_by, slot_ran_by, stand, with_back}
 use Rattle.world_core.proofs.Accepting.{heard_is, wakes}
-use Rattle.world_core.proofs.Due.{IsDue, due_is, first, second}
+use Rattle.world_core.proofs.Due.{IsDue, due_is, first, none_is, second}
 use Rattle.world_core.proofs.Entering.{begun_few}
 use Rattle.world_core.proofs.Hearing.{Commits, FirstOrder, Resumes, order_is}
 use Rattle.world_core.proofs.Idling.{same_round_is}
-use Rattle.world_core.proofs.Lists.{all_got}
+use Rattle.world_core.proofs.Lists.{all_got, long_both}
 use Rattle.world_core.proofs.Mailing.{IsNamed, name_is, names_long, own_name, place_is, same_slot, slot_is}
 use Rattle.world_core.proofs.News.{looks_kept, looks_one}
 use Rattle.world_core.proofs.Packing.{free as free_to_pack}
@@ -90,19 +90,11 @@ few_kept f test (x ∷ more) = by (test x) (few_kept f test more)
     by true rest = omega (arith, rest)
     by false rest = omega (arith, rest)
 
-long_both : {A : Type 0} (xs ys : List A) → length (xs ++ ys) ≡ length xs + length ys
-long_both [] ys = omega arith
-long_both (x ∷ xs) ys = let rest = long_both xs ys in omega (arith, rest)
-
 pub names_count : (n : ℕ) → length (names n) ≡ n + n
 names_count n = let both = long_both (names_to 0 n) (names_to 1 n) in let one = names_long 0 n in let two = names_long 1 n in omega (arith, both, one, two)
 
 pub few_names : (n : ℕ) → 0 + length (names n) ≤ n + n
 few_names n = let all = names_count n in omega (arith, all)
-
-none_is : (q : Option ℕ) → is_none q ≡ true → q ≡ None
-none_is None h = refl
-none_is (Some n) h = absurd (let e : false ≡ true = h in cc)
 
 -- it reported or not, as its cap says
 pub report_same : (places : ℕ) (round : Round) (q r : Slot) → q.cap ≡ r.cap → report_left places round q ≡ report_left places round r

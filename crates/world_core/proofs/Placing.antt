@@ -26,10 +26,6 @@ use Rattle.world_core.proofs.Floating.{PlainStep}
 use Rattle.world_core.proofs.Lists.{all_got}
 use Rattle.world_core.proofs.Mailing.{IsNamed, place_is, slot_is}
 
-append_nil : {A : Type 0} (xs : List A) → xs ++ [] ≡ xs
-append_nil [] = refl
-append_nil (x ∷ xs) = ap (λ l. x ∷ l) (append_nil xs)
-
 -- what a move at a place keeps it keeps at each
 pub kept_at : {B : Type 0} (f : Slot → B) (move : Slot → Slot) (d : Slot) → ((t : Slot) → f (move t) ≡ f t) → (xs : List Slot) (i k : ℕ) → f (slice_index_or (slice_set xs i (move (slice_index_or xs i d))) k d) ≡ f (slice_index_or xs k d)
 kept_at f move d keeps [] i k = refl

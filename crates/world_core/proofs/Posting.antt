@@ -8,7 +8,7 @@ use Rattle.letter_post.specs.declared.letter.Letter.{Letter}
 use Rattle.letter_post.specs.declared.letter.Sent.{Sent}
 use Rattle.conductor_core.specs.Tells.{is_to, mail_to}
 use Rattle.world_core.specs.Worlds.{Posts, SlotState, number_of, posted, put_by, put_in, slot_at, slot_put, with_slot}
-use Rattle.world_core.proofs.Lists.{set_get, set_same}
+use Rattle.world_core.proofs.Lists.{append_nil, set_get, set_same}
 use Rattle.world_core.proofs.Mailing.{Is, found, own_name, same_slot, slot_is}
 
 -- a slot with more letters at the back of its inbox
@@ -18,16 +18,12 @@ pub record Put (x : SlotState) (more : List Letter) (y : SlotState) : Type 0 whe
   pub back : y.back ≡ x.back
   pub since : y.since ≡ x.since
 
-append_none : {A : Type 0} (xs : List A) → xs ++ [] ≡ xs
-append_none [] = refl
-append_none (x ∷ xs) = ap (λ l. x ∷ l) (append_none xs)
-
 append_both : {A : Type 0} (xs ys zs : List A) → (xs ++ ys) ++ zs ≡ xs ++ (ys ++ zs)
 append_both [] ys zs = refl
 append_both (x ∷ xs) ys zs = ap (λ l. x ∷ l) (append_both xs ys zs)
 
 pub put_none : (x : SlotState) → Put x [] x
-put_none x = record { node = refl; box = sym (append_none x.box); back = refl; since = refl }
+put_none x = record { node = refl; box = sym (append_nil x.box); back = refl; since = refl }
 
 put_on : (x y z : SlotState) (some more : List Letter) → Put x some y → Put y more z → Put x (some ++ more) z
 put_on x y z some more a b = record {
@@ -116,7 +112,7 @@ desk_of [] = []
 desk_of (sent ∷ more) = to_desk sent.to sent.letter (desk_of more)
 
 pub posted_desk : (nodes : ℕ) (out : List Sent) (b : Posts) → (posted nodes out b).desk ≡ b.desk ++ desk_of out
-posted_desk nodes [] b = sym (append_none b.desk)
+posted_desk nodes [] b = sym (append_nil b.desk)
 posted_desk nodes (sent ∷ more) b = posted_desk nodes more (put_in nodes sent.to sent.letter b) ∙ ap (λ l. l ++ desk_of more) (one sent.to) ∙ append_both b.desk (to_desk sent.to sent.letter []) (desk_of more) ∙ ap (λ l. b.desk ++ l) (first sent.to)
   where
     by : (slot : SlotId) (o : Option SlotState) → (put_by nodes slot sent.letter b o).desk ≡ b.desk
@@ -124,7 +120,7 @@ posted_desk nodes (sent ∷ more) b = posted_desk nodes more (put_in nodes sent.
     by slot (Some x) = refl
 
     one : (to : BoxId) → (put_in nodes to sent.letter b).desk ≡ b.desk ++ to_desk to sent.letter []
-    one (boxes.Slot slot) = by slot (slot_at nodes b.slots slot) ∙ sym (append_none b.desk)
+    one (boxes.Slot slot) = by slot (slot_at nodes b.slots slot) ∙ sym (append_nil b.desk)
     one boxes.Conductor = refl
 
     first : (to : BoxId) → to_desk to sent.letter [] ++ desk_of more ≡ to_desk to sent.letter (desk_of more)

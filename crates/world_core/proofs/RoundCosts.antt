@@ -31,7 +31,7 @@ use Rattle.node_core.proofs.Lists.{all_by}
 use Rattle.node_core.proofs.Sums.{sum_append}
 use Rattle.node_core.proofs.Within.{in_left, in_right}
 use Rattle.world_core.specs.Bounds.{parts_below, reductions_of, width_below, width_of}
-use Rattle.world_core.proofs.Lists.{all_to}
+use Rattle.world_core.proofs.Lists.{all_to, append_nil}
 use Rattle.world_core.proofs.Weights.{sum_same, times_more, times_one}
 use Rattle.world_core.proofs.Widths.{BlockIn, FedIn, StepIn, all_sent, array_at, below_add, below_most, below_same, one_if, parts_weight, port_weight, sources_of, steps_most, steps_weight, sum_below}
 use Rattle.world_core.specs.Bounds as bounds
@@ -223,11 +223,7 @@ nodes_few p place array (suc j) = by (shares p place array j) (nodes_few p place
 
     by : (b : Bool) → length (nodes_with p place array j) ≤ j → length (nodes_with p place array j ++ j ∷ []) ≡ suc (length (nodes_with p place array j)) → length (nodes_with p place array j ++ cond b (j ∷ []) []) ≤ suc j
     by true few last = omega (arith, few, last)
-    by false few last = let same : nodes_with p place array j ++ [] ≡ nodes_with p place array j = no_more (nodes_with p place array j) in let long = ap length same in omega (arith, few, long)
-      where
-        no_more : (xs : List ℕ) → xs ++ [] ≡ xs
-        no_more [] = refl
-        no_more (x ∷ xs) = ap (λ l. x ∷ l) (no_more xs)
+    by false few last = let same : nodes_with p place array j ++ [] ≡ nodes_with p place array j = append_nil (nodes_with p place array j) in let long = ap length same in omega (arith, few, long)
 
 -- one number below another
 one_at : (carrier c n : ℕ) → sum_below (λ e. times (one_if (e == carrier)) c) n ≤ c

@@ -1,5 +1,5 @@
 -- What is left of a world after an event of one slot.
-use Rattle.std.proofs.Common.{◌≡◌, ℕ, zero, suc, ◌+◌, ◌<◌, ◌≤◌, List, [], ◌∷◌, length, refl, ap, arith, Option, Some, None}
+use Rattle.std.proofs.Common.{◌≡◌, ℕ, zero, suc, ◌+◌, ◌<◌, ◌≤◌, List, [], ◌∷◌, length, map, refl, ap, arith, Option, Some, None}
 use Rattle.std.specs.Prelude.{slice_get, slice_set}
 use Rattle.std.proofs.lemmas.Option.{same_Some}
 use Rattle.chare_base.specs.declared.slots.SlotId.{SlotId}
@@ -23,6 +23,10 @@ use Rattle.world_core.proofs.Unordered.{NoOrders}
 pub sum_same : {A : Type 0} (f g : A → ℕ) (xs : List A) → ((m : ℕ) (x : A) → slice_get xs m ≡ Some x → f x ≡ g x) → sum f xs ≡ sum g xs
 sum_same f g [] same = refl
 sum_same f g (x ∷ xs) same = let here = same 0 x refl in let rest = sum_same f g xs (λ m y there. same (suc m) y there) in omega (arith, here, rest)
+
+pub sum_mapped : {A B : Type 0} (f : B → ℕ) (g : A → B) (xs : List A) → sum f (map g xs) ≡ sum (λ x. f (g x)) xs
+sum_mapped f g [] = refl
+sum_mapped f g (x ∷ xs) = let rest = sum_mapped f g xs in omega (arith, rest)
 
 -- each grows by so much at most
 pub sum_most : {A : Type 0} (f g : A → ℕ) (n : ℕ) (xs : List A) → ((m : ℕ) (x : A) → slice_get xs m ≡ Some x → f x ≤ g x + n) → sum f xs ≤ sum g xs + times (length xs) n

@@ -30,7 +30,7 @@ use Rattle.world_core.specs.Worlds.{Setting, SlotState, WorldState, enabled, hap
 
 -- ---- looks
 
--- a look at place i is so many looks ahead, itself counted, where the next is at a place of so many
+-- how many looks it takes until place i of so many is looked at, that look counted
 abbrev pub looks_to : ℕ → ℕ → ℕ → ℕ
 looks_to places next i = if nat_le next i then suc (i - next) else suc (places + i - next)
 
@@ -102,7 +102,8 @@ slot_left s cut x =
 abbrev pub unnoted : List Bool → ℕ
 unnoted noted = sum (λ (b : Bool). if b then 0 else 1) noted
 
--- an agreed round is made quiet: every slot sees that and is sent two orders, and the conductor looks at all anew
+-- An agreed round is made quiet: every slot sees that and is sent two orders, which weigh six, and the conductor may have to
+-- look at each place to find any of them.
 abbrev pub agreed_left : ℕ → ℕ
 agreed_left places = suc (times places 7 + times places places)
 
