@@ -63,7 +63,7 @@ module _ (firsts : FirstRuns) (runs : RunsLower) (runs_move : RunsMove) (hears :
     abbrev Lowers : WorldState → Type 0
     Lowers next = world_left s next < world_left s w
 
-    lowers : (next : WorldState) → going_left s next < going_left s w → Lowers next
+    pub lowers : (next : WorldState) → going_left s next < going_left s w → Lowers next
     lowers next less = let most = world_most s next in let now = world_is s w going in omega (arith, less, most, now)
 
     -- by a slot
@@ -94,7 +94,7 @@ module _ (firsts : FirstRuns) (runs : RunsLower) (runs_move : RunsMove) (hears :
     fits : (m : CutMove) → wanted w.conductor ≡ m → MoveFits s.plan o.nodes w.conductor m
     fits m is = subst (MoveFits s.plan o.nodes w.conductor) is (fit s.plan s.script o s.place w.conductor (let a = plain.some in let b = plain.options.nodes in omega (arith, a, b)) sound.conductor)
 
-    made_lowers : (m : CutMove) → wanted w.conductor ≡ m → takes_move w.cut m ≡ true → move_due w.cut w.conductor m ≡ true → Lowers (conductor_made s w m)
+    pub made_lowers : (m : CutMove) → wanted w.conductor ≡ m → takes_move w.cut m ≡ true → move_due w.cut w.conductor m ≡ true → Lowers (conductor_made s w m)
     made_lowers moves.None is takes due = absurd (let e : false ≡ true = takes in cc)
     made_lowers (moves.Look slot) is takes due = lowers (conductor_made s w (moves.Look slot)) (look_lowers s o plain fit w sound afloat going slot (let f = (fits (moves.Look slot) is).1 in in_cut_nodes slot f.0 f.1) is due)
       where

@@ -59,3 +59,4 @@ pub mod RoundCosts
 pub mod StartLeft
 pub mod Limited
 pub mod Sufficient
+pub mod Possible

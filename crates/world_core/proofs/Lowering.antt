@@ -20,7 +20,7 @@ use Rattle.letter_post.specs.declared.letter.Letter.{Letter}
 use Rattle.letter_post.specs.declared.letter.Letter.TheVariants as letters
 use Rattle.letter_post.specs.Orders.{Order, order_of}
 use Rattle.letter_post.specs.Orders as orders
-use Rattle.node_core.specs.Costs.{FirstRuns, HearsLower, PacksLower, Runs, RunsLower, body_left, gathering_left, left_by, node_left, outcome_left, sum, times, totals_left}
+use Rattle.node_core.specs.Costs.{FirstRuns, HearsLower, PacksLower, Runs, RunsLower, RunsOne, body_left, gathering_left, left_by, node_left, outcome_left, sum, times, totals_left}
 use Rattle.node_core.specs.Mail.{HearsMove, PacksMove, RunsMove}
 use Rattle.node_core.specs.Nodes.{Body, NodeState, Outcome, first_running, is_from, node_heard, node_heard_as, node_heard_by, node_packed, node_ran, outcome_of}
 use Rattle.conductor_core.specs.Conductors.{sight_of as last_sight}
@@ -142,11 +142,15 @@ module _ (s : Setting) (o : Options) (plain : IsPlain s o) (w : WorldState) (slo
       slot_lowers s w slot x (acted s.plan w.cut out box back since) is (λ m y there apart. refl)
       (let sent = none_left s out.out none in let moves : moves_of since out.node.slot ≡ moves_of since name = ap (moves_of since) same in omega (arith, sent, moves, less))
 
+  pub one_lowers : RunsLower → RunsMove → (e : ElementId) → RunsOne s.plan s.script s.place t.top e.0 x.node → Lower (slot_ran_by s w.cut e x None)
+  one_lowers runs move e r =
+      let less = runs s.plan s.script s.place t.top e.0 x.node r.element r.spot r.out its.keeps r.is in
+      acted_lowers (outcome_of (node_ran s.plan s.script s.place t.top e.0 x.node)) x.box x.back x.since (move s.plan s.script s.place t.top e.0 0 x.node its.keeps).slot (ran_none s.plan s.script s.place t.top e.0 x.node) (omega (arith, less))
+
   ran_lowers : FirstRuns → RunsLower → RunsMove → (e : ElementId) → first_running s.plan (stand w.cut name).top x.node ≡ Some e → Lower (slot_ran_by s w.cut e x None)
   ran_lowers firsts runs move e is_first =
       let r : Runs s.plan s.script s.place t.top x.node e = firsts s.plan s.script s.place t.top x.node e its.keeps is_first in
-      let less = runs s.plan s.script s.place t.top e.0 x.node e r.spot r.out its.keeps r.is in
-      acted_lowers (outcome_of (node_ran s.plan s.script s.place t.top e.0 x.node)) x.box x.back x.since (move s.plan s.script s.place t.top e.0 0 x.node its.keeps).slot (ran_none s.plan s.script s.place t.top e.0 x.node) (omega (arith, less))
+      one_lowers runs move e (record { element = e; spot = r.spot; out = r.out; is = r.is })
 
   -- ---- it hears
 
@@ -199,7 +203,7 @@ module _ (s : Setting) (o : Options) (plain : IsPlain s o) (w : WorldState) (slo
       let few = release_few (resumed_after x.since) t in
       omega (arith, own, box, few)))
 
-  heard_lowers : HearsLower → HearsMove → (letter : Letter) (more : List Letter) → x.box ≡ letter ∷ more → Lower (slot_heard s w.cut x (letter ∷ more))
+  pub heard_lowers : HearsLower → HearsMove → (letter : Letter) (more : List Letter) → x.box ≡ letter ∷ more → Lower (slot_heard s w.cut x (letter ∷ more))
   heard_lowers hears hears_move letter more front = by (order_of letter) refl
     where
       which : FirstOrder s o plain w slot x is sound afloat hears_move letter → Lower (slot_heard s w.cut x (letter ∷ more))
@@ -339,7 +343,7 @@ module _ (s : Setting) (o : Options) (plain : IsPlain s o) (w : WorldState) (slo
 
   -- ---- any move, and any event
 
-  moved_lowers : PacksLower → PacksMove → (m : SlotMove) → slot_move s.plan w.cut x ≡ Some m → Lower (slot_moved_by s w.cut x (Some m))
+  pub moved_lowers : PacksLower → PacksMove → (m : SlotMove) → slot_move s.plan w.cut x ≡ Some m → Lower (slot_moved_by s w.cut x (Some m))
   moved_lowers packs move m due = by m due (due_is s.plan x.node (stand w.cut name) x.back x.since w.cut.round m due) (timely s.plan x.node (stand w.cut name) x.since w.cut.round x.back m due)
     where
       by : (m : SlotMove) → slot_move s.plan w.cut x ≡ Some m → IsDue s.plan x.node (stand w.cut name) x.back x.since m →

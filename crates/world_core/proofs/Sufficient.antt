@@ -115,6 +115,9 @@ module _ (leaves : StartLeaves) (s : Setting) (o : Options) (plain : IsPlain s o
   suffices : world_left s (opening_world s o) ≤ capped (turns_bound s.plan 0 s.nodes)
   suffices = let left = left_few in let few = turns_few in omega (arith, left, few)
 
+pub starts_within : StartLeaves → (s : Setting) (o : Options) → IsPlain s o → world_left s (opening_world s o) ≤ turns_bound s.plan 0 s.nodes
+starts_within leaves s o plain = left_few leaves s o plain
+
 pub turns_suffice : StartLeaves → TurnsSuffice
 turns_suffice leaves s o plain = suffices leaves s o plain
 

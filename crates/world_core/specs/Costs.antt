@@ -1,5 +1,5 @@
 -- What a run without faults can still do, at most: how many events are left.
-use Rattle.std.specs.Prelude.{◌≡◌, ℕ, suc, ◌+◌, ◌-◌, ◌<◌, ◌≤◌, Bool, not, ◌&&◌, nat_le, if◌then◌else◌, is_none, is_some, IsSome, List, [], ◌∷◌, map, Some}
+use Rattle.std.specs.Prelude.{◌≡◌, ℕ, suc, ◌+◌, ◌-◌, ◌<◌, ◌≤◌, Bool, not, ◌&&◌, nat_le, if◌then◌else◌, is_none, is_some, IsSome, List, [], ◌∷◌, map, Some, true, length}
 use Rattle.chare_base.specs.declared.options.Options.{Options}
 use Rattle.chare_base.specs.declared.plan.Plan.{Plan}
 use Rattle.chare_base.specs.declared.slots.SlotId.{SlotId}
@@ -25,6 +25,7 @@ use Rattle.world_core.specs.Bounds.{capped, turns_bound}
 use Rattle.world_core.specs.Drills.{drilled}
 use Rattle.world_core.specs.Moves.{is_resumed, same_round}
 use Rattle.world_core.specs.Sound.{Sound, names}
+use Rattle.world_core.specs.Steps.{is_enabled}
 use Rattle.world_core.specs.Still.{Afloat, IsPlain}
 use Rattle.world_core.specs.Worlds.{Setting, SlotState, WorldState, enabled, happens, is_news, opening_world, picked, reached, sight_in}
 
@@ -143,6 +144,19 @@ world_left s w = if is_some w.conductor.outcome then 0 else suc (going_left s w)
 abbrev pub EveryEventLowers : Type 0
 EveryEventLowers = (s : Setting) (o : Options) (w : WorldState) (actor : Actor) (event : Event) → IsPlain s o → Sound s o w → Afloat s w → enabled s.plan s.nodes w actor ≡ Some event →
     world_left s (happens s w event) < world_left s w
+
+-- by any event that can happen
+abbrev pub EachEventLowers : Type 0
+EachEventLowers = (s : Setting) (o : Options) (w : WorldState) (event : Event) → IsPlain s o → Sound s o w → Afloat s w → is_enabled s.plan s.nodes w event ≡ true → world_left s (happens s w event) < world_left s w
+
+-- events of which each can happen as it comes
+abbrev pub CanHappen : Setting → WorldState → List Event → Type 0
+CanHappen s w [] = Unit {0}
+CanHappen s w (event ∷ more) = (is_enabled s.plan s.nodes w event ≡ true) × CanHappen s (happens s w event) more
+
+-- No run has more events than the turns of a schedule, whichever events are taken.
+abbrev pub NoRunIsLonger : Type 0
+NoRunIsLonger = (s : Setting) (o : Options) (all : List Event) → IsPlain s o → CanHappen s (opening_world s o) all → length all ≤ turns_bound s.plan 0 s.nodes
 
 -- However a chooser picks, so many turns end the run as what is left at the start.
 abbrev pub EveryScheduleEnds : Type 0

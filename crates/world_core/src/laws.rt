@@ -1,6 +1,6 @@
 //! Laws of the world: each is called where it is wanted, and its clauses are facts from there on.
 
-ghost use Rattle.world_core.specs.Costs.{DrillsEnd, EveryEventLowers, EveryScheduleEnds, TurnsSuffice};
+ghost use Rattle.world_core.specs.Costs.{DrillsEnd, EachEventLowers, EveryEventLowers, EveryScheduleEnds, NoRunIsLonger, TurnsSuffice};
 ghost use Rattle.world_core.specs.Drills.{DrillsWait};
 ghost use Rattle.world_core.specs.Sound.{EveryEventKeeps, EveryWorldIsSound, EveryWorldWaits, SoundServes, StartIsSound};
 ghost use Rattle.world_core.specs.Still.{EveryEventKeepsAfloat, EveryWorldStaysAfloat, NeverStandsStill, NoStandstill, StartIsAfloat};
@@ -90,6 +90,22 @@ pub fn schedules_end()
     worlds_start_afloat();
     worlds_stay_afloat();
     no_standstill();
+    nodes_cost();
+    nodes_move();
+    moves_fit_the_round();
+    agreement_is_exact();
+    equal_exactly();
+}
+
+/// So does each event that can happen, where there are more of them than the actors would make. And so no run has more events
+/// than the bound on turns, whichever events that can happen are taken.
+pub fn runs_are_bounded()
+    ensures lower { EachEventLowers }
+    ensures longest { NoRunIsLonger }
+{
+    worlds_are_sound();
+    worlds_start_afloat();
+    worlds_stay_afloat();
     nodes_cost();
     nodes_move();
     moves_fit_the_round();
