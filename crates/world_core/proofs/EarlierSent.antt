@@ -14,7 +14,7 @@ use Rattle.world_core.proofs.Lists.{all_joined}
 
 -- ---- lists one behind another
 
-abbrev pub listed : {A : Type 0} → (ℕ → List A) → ℕ → List A
+abbrev listed : {A : Type 0} → (ℕ → List A) → ℕ → List A
 listed each zero = []
 listed each (suc n) = listed each n ++ each n
 

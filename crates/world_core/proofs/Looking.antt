@@ -44,10 +44,6 @@ module _ (s : Setting) (o : Options) (w : WorldState) (sound : Sound s o w) (afl
   abbrev cut : CutState
   cut = opened floor w.cut
 
-  slots_are : (name : SlotId) → slot_of cut name ≡ slot_of w.cut name
-  unfolding opened
-  slots_are name = refl
-
   not_agreed : (k : ℕ) → c.phase ≡ phases.Agreed k → ⊥
   not_agreed k h = let q : phases.Quiet ≡ phases.Agreed k = sym quiet ∙ h in cc
 

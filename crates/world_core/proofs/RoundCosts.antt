@@ -119,7 +119,7 @@ module _ (p : Plan) (e : ℕ) where
         omega (arith, here, single, rest)
 
   -- what reductions of an array cost, the first of which has number r
-  abbrev pub owners_weight : (ℕ → ℕ) → ℕ → ℕ → List Reduction → ℕ
+  abbrev owners_weight : (ℕ → ℕ) → ℕ → ℕ → List Reduction → ℕ
   owners_weight cost array r [] = 0
   owners_weight cost array r (x ∷ more) = times (one_if (x.owner == array)) (cost r) + owners_weight cost array (suc r) more
 
@@ -189,7 +189,7 @@ module _ (p : Plan) (place : List ℕ) (e : ℕ) where
       let rest = steps_same (suc s) more (λ m. let next : s + suc m ≡ suc s + m = omega arith in known (suc m) ∙ ap (slice_get (steps_of p e)) next) in
       omega (arith, here, rest)
 
-  abbrev pub reductions_cost : ℕ
+  abbrev reductions_cost : ℕ
   reductions_cost = owners_weight p e (contribution_cost p place e) (array_at p e) 0 p.reductions
 
   -- its parts, what it sends, and its contributions

@@ -34,7 +34,7 @@ sum_most f g n [] most = omega arith
 sum_most f g n (x ∷ xs) most = let here = most 0 x refl in let rest = sum_most f g n xs (λ m y there. most (suc m) y there) in omega (arith, here, rest)
 
 -- after a change at a place, where the others stay
-pub sum_others : {A : Type 0} (f g : A → ℕ) (xs : List A) (i : ℕ) (x y : A) → slice_get xs i ≡ Some x → ((m : ℕ) (z : A) → slice_get xs m ≡ Some z → (m ≡ i → ⊥) → f z ≡ g z) → sum f (slice_set xs i y) + g x ≡ sum g xs + f y
+sum_others : {A : Type 0} (f g : A → ℕ) (xs : List A) (i : ℕ) (x y : A) → slice_get xs i ≡ Some x → ((m : ℕ) (z : A) → slice_get xs m ≡ Some z → (m ≡ i → ⊥) → f z ≡ g z) → sum f (slice_set xs i y) + g x ≡ sum g xs + f y
 sum_others f g [] i x y h same = absurd (let q : None ≡ Some x = h in cc)
 sum_others f g (z ∷ xs) zero x y h same =
     let here : g z ≡ g x = ap g (same_Some z x h) in
