@@ -1,4 +1,4 @@
--- The element that is named as the first that can run runs.
+-- An element that can run runs, and so does the one that is named as the first of these.
 use Rattle.std.proofs.Common.{◌≡◌, ℕ, suc, ◌<◌, Bool, true, false, cond, List, [], ◌∷◌, refl, ap, sym, ◌∙◌, Option, Some, None, IsSome}
 use Rattle.std.specs.Prelude.{◌&&◌, IfSome, is_none, nat_lt, slice_get}
 use Rattle.std.specs.Option.{option_map_or}
@@ -20,9 +20,9 @@ use Rattle.object_steps.specs.Objects.{Fits, Progress, begun, ready}
 use Rattle.object_steps.specs.Turns.{ReadyTells, Waits}
 use Rattle.node_core.specs.declared.turn.Turn.{Turn}
 use Rattle.node_core.specs.declared.turn.Turn.TheVariants as turns
-use Rattle.node_core.specs.Costs.{FirstRuns, Runs}
+use Rattle.node_core.specs.Costs.{EachRuns, FirstRuns, Runs, RunsOne}
 use Rattle.node_core.specs.Keeps.{Alive, element_of}
-use Rattle.node_core.specs.Nodes.{Body, Passing, awake, body_ran, body_ran_at, body_ran_by, first_running, first_running_of, node_ran, node_ran_by, passed, sender_of, stands, turn_of}
+use Rattle.node_core.specs.Nodes.{Body, Passing, awake, body_ran, body_ran_at, body_ran_by, can_run_by, first_running, first_running_of, node_can_run, node_ran, node_ran_by, object_of, passed, rests_by, seated_in, sender_of, stands, turn_of}
 use Rattle.node_core.specs.Rosters.{seat_of}
 use Rattle.node_core.specs.Turns.{Turned, begins, can_run, goes_at, is_step, stays, turned}
 use Rattle.node_core.specs.Turns as turns_of
@@ -133,3 +133,39 @@ first_runs law tells free p script place limit n e keeps first = result (by n.bo
 
     result : TurnRan e (node_ran_by p script place limit e.0 n n.body).turn → Runs p script place limit n e
     result t = record { spot = t.spot; out = t.out; is = t.is }
+
+-- each that can run does
+pub each_runs : ObjectsFollow → ReadyTells → FirstStepIsFree → EachRuns
+unfolding node_can_run node_ran body_ran
+each_runs law tells free p script place limit e n keeps awake can = by n.body refl keeps.body awake can
+  where
+    lines : List Flip
+    lines = lines_of script n.last.stamp
+
+    of_object : (b : Body) → n.body ≡ Some b → b.waits ≡ false → (i : ℕ) → seat_of n.roster e ≡ Some i → (o : Progress) → slice_get b.objects i ≡ Some o → IsSome (turned p lines limit o).spot → RunsOne p script place limit e n
+    of_object b alive goes i seat o there some = ran (turned p lines limit o).spot refl some
+      where
+        on : Passing
+        on = passed p place n.roster (sender_of p n.slot n.last.stamp n.roster i o) (turned p lines limit o).sent (record { gatherings = b.gatherings; out = [] })
+
+        turn_is : (node_ran p script place limit e n).turn ≡ turn_of o.element (begins p.iterations o) (turned p lines limit o).spot on.out
+        turn_is =
+            ap (λ q. (node_ran_by p script place limit e n q).turn) alive
+            ∙ ap (λ w. (cond w (stands b) (body_ran_at p lines place limit n.slot n.last.stamp n.roster b (seat_of n.roster e))).turn) goes
+            ∙ ap (λ s. (body_ran_at p lines place limit n.slot n.last.stamp n.roster b s).turn) seat ∙ ap (λ x. (body_ran_by p lines place limit n.slot n.last.stamp n.roster b i x).turn) there
+
+        ran : (x : Option Spot) → (turned p lines limit o).spot ≡ x → IsSome x → RunsOne p script place limit e n
+        ran None has some = absurd (let q : false ≡ true = some in cc)
+        ran (Some spot) has some = record { element = o.element; spot = spot; out = on.out; is = turn_is ∙ ap (λ x. turn_of o.element (begins p.iterations o) x on.out) has }
+
+    by : (body : Option Body) → n.body ≡ body → IfSome body (Alive p script place n) → rests_by body ≡ false → can_run_by p limit (object_of n e body) ≡ true → RunsOne p script place limit e n
+    by None is alive h can = absurd (let q : true ≡ false = h in cc)
+    by (Some b) is alive h can = seated (seat_of n.roster e) refl can
+      where
+        seated : (q : Option ℕ) → seat_of n.roster e ≡ q → can_run_by p limit (seated_in b.objects q) ≡ true → RunsOne p script place limit e n
+        seated None seat can = absurd (let q : false ≡ true = can in cc)
+        seated (Some i) seat can = object (slice_get b.objects i) refl can
+          where
+            object : (q : Option Progress) → slice_get b.objects i ≡ q → can_run_by p limit q ≡ true → RunsOne p script place limit e n
+            object None there can = absurd (let q : false ≡ true = can in cc)
+            object (Some o) there can = of_object b is h i seat o there (can_go law tells free p lines limit o (got_at (Follows p lines) b.objects i o alive.objects there) can)

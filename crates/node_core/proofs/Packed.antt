@@ -1,5 +1,5 @@
 -- What pieces do with letters, and the laws of hearing and packing.
-use Rattle.std.proofs.Common.{◌≡◌, ℕ, ◌<◌, ◌≤◌, inl, Bool, true, false, cond, List, [], ◌∷◌, ◌++◌, refl, ap, sym, ◌∙◌, arith, subst, Option, Some, None}
+use Rattle.std.proofs.Common.{◌≡◌, ℕ, ◌<◌, ◌≤◌, inl, inr, Bool, true, false, cond, List, [], ◌∷◌, ◌++◌, refl, ap, sym, ◌∙◌, arith, subst, Option, Some, None}
 use Rattle.std.specs.Prelude.{◌⊎◌, ◌&&◌, ◌||◌, ◌==◌, IfSome, is_none, not, nat_lt}
 use Rattle.std.specs.List.{AllByRecursion}
 use Rattle.std.proofs.lemmas.Bool.{eqb-true, eq-eqb, ltb-true}
@@ -62,15 +62,20 @@ module _ (p : Plan) (script : List Fault) (place : List ℕ) (K : ℕ) (n : Node
     abbrev held : Held
     held = record { stamp = stamp; piece = piece }
 
-    -- what was held since is held since, by a newer one of the same iteration
-    newer : (other : Option Held) → is_new stamp piece other ≡ true → IfSome other (λ (h : Held). h.piece.iteration ≡ K) → (s : Stamp) (q : Piece) → IsSomeAs other (HeldSince s q) → HeldSince s q held
+    -- what was held since is held since, by a newer one of the same iteration or one of a later iteration
+    newer : (other : Option Held) → is_new stamp piece other ≡ true → IfSome other (λ (h : Held). h.piece.iteration ≤ K) → (s : Stamp) (q : Piece) → IsSomeAs other (HeldSince s q) → HeldSince s q held
     newer None new at s q h = absurd h
-    newer (Some old) new at s q h =
-        let same : old.piece.iteration ≡ piece.iteration = at ∙ sym is in
-        let equal : not (old.piece.iteration == piece.iteration) ≡ false = ap not (eq-eqb old.piece.iteration piece.iteration same) in
-        let later : old.stamp.epoch < stamp.epoch = ltb-true old.stamp.epoch stamp.epoch (or_left (nat_lt old.stamp.epoch stamp.epoch) (not (old.piece.iteration == piece.iteration)) new equal) in
-        let before = h.epoch in
-        record { iteration = sym same ∙ h.iteration; epoch = omega (arith, later, before) }
+    newer (Some old) new at s q h = by (nat_lt old.piece.iteration piece.iteration) refl h
+      where
+        by : (c : Bool) → nat_lt old.piece.iteration piece.iteration ≡ c → HeldSince s q old → HeldSince s q held
+        by c t (inl earlier) = inl (omega (arith, earlier, at, is))
+        by true t (inr had) = inl (let less : old.piece.iteration < piece.iteration = ltb-true old.piece.iteration piece.iteration t in let same = had.iteration in omega (arith, less, same))
+        by false t (inr had) =
+            let same : old.piece.iteration ≡ piece.iteration = grind (arith, nat_tests, t, at, is) in
+            let equal : not (old.piece.iteration == piece.iteration) ≡ false = ap not (eq-eqb old.piece.iteration piece.iteration same) in
+            let later : old.stamp.epoch < stamp.epoch = ltb-true old.stamp.epoch stamp.epoch (or_left (nat_lt old.stamp.epoch stamp.epoch) (not (old.piece.iteration == piece.iteration)) new equal) in
+            let before = had.epoch in
+            inr (record { iteration = sym same ∙ had.iteration; epoch = omega (arith, later, before) })
 
     piece_moves : is_new stamp piece b.other ≡ true → BodyMoves p place K n b (with_other b held) (compared p n.last.stamp b.fresh (Some held))
     piece_moves new = record {
@@ -83,7 +88,7 @@ module _ (p : Plan) (script : List Fault) (place : List ℕ) (K : ℕ) (n : Node
         piece = λ one. if_some _ _ b.fresh (λ q. in_left (to_slot 0 n.slot.node (letters.Piece n.last.stamp q)) log (compared p n.last.stamp b.fresh (Some held))) (owes.piece one);
         verdict = λ zero. verdict b.fresh log;
         fresh = owes.fresh;
-        other = is;
+        other = omega (arith, is);
       };
       pieces = λ log owes. compared_at K p n.last.stamp b.fresh (Some held) owes.fresh;
     }
@@ -99,10 +104,10 @@ module _ (p : Plan) (script : List Fault) (place : List ℕ) (K : ℕ) (n : Node
     held_already (Some old) new =
         let parts = or_none (nat_lt old.stamp.epoch stamp.epoch) (not (old.piece.iteration == piece.iteration)) new in
         let late : stamp.epoch ≤ old.stamp.epoch = let l = parts.0 in grind (arith, nat_tests, l) in
-        record { iteration = eqb-true old.piece.iteration piece.iteration (not_false (old.piece.iteration == piece.iteration) parts.1); epoch = late }
+        inr (record { iteration = eqb-true old.piece.iteration piece.iteration (not_false (old.piece.iteration == piece.iteration) parts.1); epoch = late })
 
     own_held : HeldSince stamp piece held
-    own_held = record { iteration = refl; epoch = omega arith }
+    own_held = inr (record { iteration = refl; epoch = omega arith })
 
     -- hearing it, whether it is kept or not
     record PieceHeard (h : Heard) : Type 1 where

@@ -27,7 +27,7 @@ use Rattle.pup_state.specs.declared.piece.Piece.{Piece}
 use Rattle.node_core.specs.declared.turn.Turn.TheVariants as turns
 use Rattle.node_core.specs.Gatherings.{Gathering}
 use Rattle.node_core.specs.Keeps.{Keeps}
-use Rattle.node_core.specs.Nodes.{Body, NodeState, Outcome, first_running, node_at, node_heard, node_packed, node_ran, outcome_of}
+use Rattle.node_core.specs.Nodes.{Body, NodeState, Outcome, first_running, node_at, node_can_run, node_heard, node_packed, node_ran, outcome_of, rests}
 use Rattle.node_core.specs.Rosters.{node_count, nodes_with}
 use Rattle.node_core.specs.Starts.{start_state}
 
@@ -159,6 +159,16 @@ pub record Runs (p : Plan) (script : List Fault) (place : List ℕ) (limit : ℕ
 
 abbrev pub FirstRuns : Type 0
 FirstRuns = (p : Plan) (script : List Fault) (place : List ℕ) (limit : ℕ) (n : NodeState) (e : ElementId) → Keeps p script place n → first_running p limit n ≡ Some e → Runs p script place limit n e
+
+-- an element that can run runs a part
+pub record RunsOne (p : Plan) (script : List Fault) (place : List ℕ) (limit e : ℕ) (n : NodeState) : Type 0 where
+  pub element : ElementId
+  pub spot : Spot
+  pub out : List Sent
+  pub is : (node_ran p script place limit e n).turn ≡ turns.Ran element spot out
+
+abbrev pub EachRuns : Type 0
+EachRuns = (p : Plan) (script : List Fault) (place : List ℕ) (limit e : ℕ) (n : NodeState) → Keeps p script place n → rests n ≡ false → node_can_run p limit n e ≡ true → RunsOne p script place limit e n
 
 -- each event leaves less
 abbrev pub RunsLower : Type 0

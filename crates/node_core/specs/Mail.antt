@@ -97,10 +97,14 @@ given_in (Some g) rank = given_at g.gathered.given rank
 abbrev pub Given : List Gathering → ℕ → ℕ → ℕ → Type 0
 Given all r k rank = IsSome (given_in (gathering_of (reduction_id r) k all) rank)
 
--- a buddy's piece that came stays until a newer one comes
-pub record HeldSince (stamp : Stamp) (piece : Piece) (held : Held) : Type 0 where
+-- a piece of the same checkpoint is held, sent in the same epoch or a later one
+pub record HeldAs (stamp : Stamp) (piece : Piece) (held : Held) : Type 0 where
   pub iteration : held.piece.iteration ≡ piece.iteration
   pub epoch : stamp.epoch ≤ held.stamp.epoch
+
+-- a buddy's piece that came stays until a newer one comes, or one of a later checkpoint
+abbrev pub HeldSince : Stamp → Piece → Held → Type 0
+HeldSince stamp piece held = (piece.iteration < held.piece.iteration) ⊎ HeldAs stamp piece held
 
 abbrev pub IsSomeAs : {A : Type 0} → Option A → (A → Type 0) → Type 0
 IsSomeAs None P = ⊥
@@ -146,14 +150,15 @@ abbrev pub AllNumbered : {A : Type 0} → (ℕ → A → Type 0) → ℕ → Lis
 AllNumbered P i [] = Unit {0}
 AllNumbered P i (x ∷ more) = P i x × AllNumbered P (suc i) more
 
--- Whatever a live node should have sent was sent. Its pieces are of the checkpoint at K.
+-- Whatever a live node should have sent was sent. Its fresh piece is of the checkpoint at K, and its buddy's of that one
+-- or an earlier one.
 pub record BodyOwes (p : Plan) (place : List ℕ) (K : ℕ) (log : List Sent) (n : NodeState) (b : Body) : Type 0 where
   pub objects : AllByRecursion (Paid p place n.last.stamp log) b.objects
   pub contributed : AllNumbered (Contributed p n b log) 0 b.objects
   pub piece : n.slot.replica ≡ 1 → IfSome b.fresh (λ (piece : Piece). In (to_slot 0 n.slot.node (letters.Piece n.last.stamp piece)) log)
   pub verdict : (n.slot.replica ≡ 1 → ⊥) → IfSome b.fresh (λ (mine : Piece). IfSome b.other (λ (held : Held). mine.iteration ≡ held.piece.iteration → In (verdict_sent p n.last.stamp mine held) log))
   pub fresh : IfSome b.fresh (λ (piece : Piece). piece.iteration ≡ K)
-  pub other : IfSome b.other (λ (held : Held). held.piece.iteration ≡ K)
+  pub other : IfSome b.other (λ (held : Held). held.piece.iteration ≤ K)
 
 abbrev pub Owes : Plan → List ℕ → ℕ → List Sent → NodeState → Type 0
 Owes p place K log n = IfSome n.body (BodyOwes p place K log n)

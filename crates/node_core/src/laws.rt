@@ -1,6 +1,6 @@
 //! Laws of nodes: each is called where it is wanted, and its clauses are facts from there on.
 
-ghost use Rattle.node_core.specs.Costs.{FirstRuns, HearsLower, PacksLower, RunsLower, StartLeaves};
+ghost use Rattle.node_core.specs.Costs.{EachRuns, FirstRuns, HearsLower, PacksLower, RunsLower, StartLeaves};
 ghost use Rattle.node_core.specs.Keeps.{HearsKeep, KeepsFits, OrdersRest, PacksKeep, RunsKeep, StartsKeep, TurnsKeep};
 ghost use Rattle.node_core.specs.LoadLaws.{LoadsTell, RecordsLoad};
 ghost use Rattle.node_core.specs.Loads.{LoadsBack};
@@ -55,10 +55,11 @@ pub fn nodes_move()
 
 /// What a node can still do gets less with each of its events, what the letters that it sends can set off counted: with
 /// each part that it runs, once it packs, and with each letter that it hears, which weighs as much as hearing it can set
-/// off; but not with an order, which may send it back. The element that is named as the first that can run runs a part.
-/// At the opening a node has all iterations of its elements before it, and its pack.
+/// off; but not with an order, which may send it back. An element that can run runs a part, as does the one that is named as
+/// the first of these. At the opening a node has all iterations of its elements before it, and its pack.
 pub fn nodes_cost()
     ensures first { FirstRuns }
+    ensures each { EachRuns }
     ensures runs { RunsLower }
     ensures packs { PacksLower }
     ensures hears { HearsLower }

@@ -5,6 +5,10 @@ use Rattle.std.specs.List.{AllByRecursion}
 use Rattle.std.proofs.lemmas.Option.{same_Some}
 use Rattle.node_core.specs.Mail.{In}
 
+pub append_nil : {A : Type 0} (xs : List A) → xs ++ [] ≡ xs
+append_nil [] = refl
+append_nil (x ∷ xs) = ap (λ l. x ∷ l) (append_nil xs)
+
 -- what holds of all holds of one that is there
 pub all_got : {A : Type 0} (P : A → Type 0) (xs : List A) (i : ℕ) (x : A) → AllByRecursion P xs → slice_get xs i ≡ Some x → P x
 all_got P [] i x all h = absurd cc
@@ -82,3 +86,11 @@ pub get_unmapped : {A B : Type 0} (f : A → B) (xs : List A) (i : ℕ) (y : B) 
 get_unmapped f [] i y h = absurd (let q : None ≡ Some y = h in cc)
 get_unmapped f (z ∷ xs) zero y h = (z, refl, same_Some (f z) y h)
 get_unmapped f (z ∷ xs) (suc i) y h = get_unmapped f xs i y h
+
+pub long_both : {A : Type 0} (xs ys : List A) → length (xs ++ ys) ≡ length xs + length ys
+long_both [] ys = omega arith
+long_both (x ∷ xs) ys = let rest = long_both xs ys in omega (arith, rest)
+
+pub long_map : {A B : Type 0} (f : A → B) (xs : List A) → length (map f xs) ≡ length xs
+long_map f [] = refl
+long_map f (x ∷ xs) = ap suc (long_map f xs)

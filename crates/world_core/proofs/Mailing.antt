@@ -24,14 +24,14 @@ use Rattle.world_core.proofs.Sides.{Stands}
 
 -- ---- slots by their names
 
-same_slot : (a b : SlotId) → (a.replica == b.replica && a.node == b.node) ≡ true → a ≡ b
+pub same_slot : (a b : SlotId) → (a.replica == b.replica && a.node == b.node) ≡ true → a ≡ b
 same_slot a b h =
     let r : a.replica ≡ b.replica = eqb-true a.replica b.replica (first (a.replica == b.replica) (a.node == b.node) h) in
     let n : a.node ≡ b.node = eqb-true a.node b.node (second (a.replica == b.replica) (a.node == b.node) h) in
     let one : a ≡ record { replica = b.replica; node = a.node } = ap (λ m. record { replica = m; node = a.node }) r in
     one ∙ ap (λ m. record { replica = b.replica; node = m }) n
 
-own_name : (a : SlotId) → (a.replica == a.replica && a.node == a.node) ≡ true
+pub own_name : (a : SlotId) → (a.replica == a.replica && a.node == a.node) ≡ true
 own_name a = ap (λ b. b && a.node == a.node) (eq-eqb a.replica a.replica refl) ∙ eq-eqb a.node a.node refl
 
 -- a slot where its name says
@@ -105,7 +105,7 @@ first_number nodes node i h = omega (arith, h)
 second_number : (nodes node i : ℕ) → nodes + node ≡ i → 1 * nodes + node ≡ i
 second_number nodes node i h = omega (arith, h)
 
-name_is : (nodes i : ℕ) (slot : SlotId) → slice_get (names nodes) i ≡ Some slot → IsNamed nodes i slot
+pub name_is : (nodes i : ℕ) (slot : SlotId) → slice_get (names nodes) i ≡ Some slot → IsNamed nodes i slot
 name_is nodes i slot h = by (got_front (names_to 0 nodes) (names_to 1 nodes) i slot h)
   where
     by : (slice_get (names_to 0 nodes) i ≡ Some slot) ⊎ ((m : ℕ) × (i ≡ length (names_to 0 nodes) + m) × (slice_get (names_to 1 nodes) m ≡ Some slot)) → IsNamed nodes i slot

@@ -4,3 +4,5 @@ pub mod Steps
 pub mod Sound
 pub mod Bounds
 pub mod Drills
+pub mod Still
+pub mod Costs

@@ -1,6 +1,6 @@
 //! Drills: whole runs by a schedule.
 
-ghost use Rattle.std.specs.Prelude.{◌≡◌, ◌≤◌, ◌<◌, ◌+◌, ◌-◌, ◌++◌, suc, length, slice_get, OnOk, IfOk, Err, None, Some};
+ghost use Rattle.std.specs.Prelude.{◌≡◌, ◌≢◌, ◌≤◌, ◌<◌, ◌+◌, ◌-◌, ◌++◌, [], suc, length, slice_get, OnOk, IfOk, Err, None, Some};
 ghost use Rattle.std.specs.List.{AllByRecursion};
 ghost use Rattle.chare_base.specs.Elements.{elements};
 ghost use Rattle.fault_script.specs.Lines.{faults_of};
@@ -13,7 +13,7 @@ ghost use Rattle.world_core.specs.Worlds.{actor_at, chosen_of, drawn, goes_on, o
 
 use crate::event::{Actor, Chooser, Event};
 use crate::fault::DrillFault;
-use crate::laws::{sound_worlds_serve, worlds_are_sound};
+use crate::laws::{drills_end, sound_worlds_serve, worlds_are_sound};
 use crate::turns::turns;
 use crate::world::World;
 use chare_base::memory::Memory;
@@ -29,7 +29,8 @@ use std::alloc::Global;
 /// Runs a job by a schedule, each node with a block of elements, to its ending. Schedule 0 goes round the actors;
 /// another number draws among those that have an event.
 ///
-/// `Still`: the run hasn't ended where no actor has an event, or where the turns that `turns_bound` allows have run out.
+/// `Still`: the run hasn't ended where no actor has an event, or where the turns that `turns_bound` allows have run out. A
+/// run of a script without lines never answers so.
 /// `Memory`: an allocation was refused.
 #[tactic(auto, unfolding(crate::specs::Drills::drilled))]
 pub fn drill(
@@ -47,9 +48,11 @@ pub fn drill(
     ensures marks { IfOk result (λ ending. ending.marks ≡ (drilled plan.now script.now options.now schedule).conductor.marks) }
     ensures last { IfOk result (λ ending. ending.last ≡ (drilled plan.now script.now options.now schedule).conductor.last) }
     ensures still { result ≡ Err DrillFault.Still → (drilled plan.now script.now options.now schedule).conductor.outcome ≡ None }
+    ensures ends { script.now ≡ [] → 1 ≤ options.now.every → result ≢ Err DrillFault.Still }
     ensures lawful { IfOk result (λ ending. IsEnding plan.now (faults_of script.now) options.now ending) }
 {
     conductors_tell();
+    drills_end();
     let map = BlockMap {
         elements: plan.elements(),
         nodes: options.nodes,

@@ -8,7 +8,9 @@
 //! `worlds_are_sound` is the law: whatever events happen, in whatever order, each node keeps the definition, each letter
 //! in an inbox is true, and the conductor tells the definition. So it says of an order of events nothing but that they
 //! are a list. A schedule is one way to pick them: `drill` runs a job by the schedule of a number to its ending, which
-//! without faults has lawful records and the checkpoint of the plain job.
+//! without faults has lawful records and the checkpoint of the plain job. Without a script it always comes to that
+//! ending: no world that is reached stands still before (`worlds_stay_afloat`), and no run has more events than a
+//! drill has turns (`runs_are_bounded`, `drills_end`).
 //!
 //! The top call drills through this crate, and tests try schedules with it.
 #![tactic(auto)]
