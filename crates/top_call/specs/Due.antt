@@ -1,5 +1,5 @@
 -- What the program owes: the status and the text, by the words and the input.
-use Rattle.std.specs.Prelude.{◌≡◌, ℕ, ◌<◌, ◌≤◌, Bool, true, false, List, [], ◌++◌, Option, Some, None, Err, codes, length, map, ◌⊎◌}
+use Rattle.std.specs.Prelude.{◌≡◌, ◌≢◌, ℕ, ◌<◌, ◌≤◌, Bool, true, false, List, [], ◌++◌, Option, Some, None, Err, codes, length, map, ◌⊎◌}
 use Rattle.std.specs.List.{list_any}
 use Rattle.std.specs.Fmt.{decimal}
 use Rattle.std.specs.String.{string_bytes}
@@ -87,7 +87,7 @@ has_crash script = list_any (λ (line : FaultLine). is_crash line.fault) script
 -- the status and the text that a job is owed, drilled under this script with these options by this schedule
 abbrev pub DueRun : Options → ℕ → Plan → List FaultLine → Status → List ℕ → Type 0
 DueRun o schedule p script Done text = (o.nodes ≤ elements p) × IsReport p script o schedule text
-DueRun o schedule p script Still text = (o.nodes ≤ elements p) × ((drilled p script o schedule).conductor.outcome ≡ None) × (text ≡ codes "still\n")
+DueRun o schedule p script Still text = (o.nodes ≤ elements p) × (script ≢ []) × ((drilled p script o schedule).conductor.outcome ≡ None) × (text ≡ codes "still\n")
 DueRun o schedule p script Usage text = (elements p < o.nodes) × (text ≡ nodes_line o.nodes (elements p))
 DueRun o schedule p script _ text = ⊥
 

@@ -52,6 +52,7 @@ fn answer_to_drill(
 ) -> Result<Answer, Memory>
     requires some { 1 ≤ options.nodes }
     requires bounded { options.nodes ≤ 32 }
+    requires every { 1 ≤ options.every }
     requires strong { options.mode ≡ Strong }
     ensures { IfOk result (λ answer. DueDrill options schedule input.now answer.status answer.text) }
 {
@@ -72,6 +73,7 @@ fn answer_to_texts(
 ) -> Result<Answer, Memory>
     requires some { 1 ≤ options.now.nodes }
     requires bounded { options.now.nodes ≤ 32 }
+    requires every { 1 ≤ options.now.every }
     requires strong { options.now.mode ≡ Strong }
     requires short_job { length job.now ≤ 262144 }
     requires short_script { length script.now ≤ 262144 }

@@ -33,6 +33,7 @@ pub fn drilled(
 ) -> Result<Answer, Memory>
     requires some { 1 ≤ options.now.nodes }
     requires bounded { options.now.nodes ≤ 32 }
+    requires every { 1 ≤ options.now.every }
     requires strong { options.now.mode ≡ Strong }
     ensures { IfOk result (λ answer. DueRun options.now schedule plan.now script.now answer.status answer.text) }
 {
@@ -52,6 +53,7 @@ fn run(
 ) -> Result<Answer, Memory>
     requires some { 1 ≤ options.now.nodes }
     requires bounded { options.now.nodes ≤ 32 }
+    requires every { 1 ≤ options.now.every }
     requires strong { options.now.mode ≡ Strong }
     requires few { options.now.nodes ≤ elements plan.now }
     ensures { IfOk result (λ answer. DueRun options.now schedule plan.now script.now answer.status answer.text) }

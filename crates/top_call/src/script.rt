@@ -29,6 +29,7 @@ pub(crate) fn scripted(
 ) -> Result<Answer, Memory>
     requires some { 1 ≤ options.now.nodes }
     requires bounded { options.now.nodes ≤ 32 }
+    requires every { 1 ≤ options.now.every }
     requires strong { options.now.mode ≡ Strong }
     requires short { length text.now ≤ 262144 }
     ensures { IfOk result (λ answer. DueJob options.now schedule plan.now text.now answer.status answer.text) }
