@@ -1,4 +1,4 @@
-use Rattle.std.proofs.Common.{◌≡◌, ◌∙◌, ◌+◌, ◌-◌, ℕ, ap, sym, refl, arith}
+use Rattle.std.proofs.Common.{◌∙◌, ◌+◌, ◌-◌, ℕ, ap, sym, refl, arith}
 use Rattle.chare_base.specs.declared.plan.Plan.{Plan}
 use Rattle.world_core.specs.Worlds.{WorldState, actor_at, enabled, with_event}
 use Rattle.world_core.proofs.Picks.{here_is, not_here}
