@@ -1,6 +1,6 @@
 -- That an object follows the definition.
 use Rattle.std.proofs.Common.{◌≡◌, ℕ, zero, suc, ◌+◌, ◌<◌, ◌≤◌, Bool, true, false, cond, List, [], ◌∷◌, length, refl, ap, sym, ◌∙◌, arith, subst, Option, Some, None, Ordering, Less, Equal, Greater}
-use Rattle.std.specs.Prelude.{is_some, nat_le, unwrap_or, ◌==◌, ◌&&◌, slice_get, slice_set, slice_index_or}
+use Rattle.std.specs.Prelude.{is_some, nat_le, unwrap_or, ◌==◌, ◌&&◌}
 use Rattle.std.specs.BTreeMap.{insert_entry}
 use Rattle.std.specs.List.{AllByRecursion, filter}
 use Rattle.std.specs.Map.{lookup, remove_entry}
@@ -24,7 +24,7 @@ use Rattle.chare_base.specs.Entries.{nothing, source_of}
 use Rattle.chare_base.specs.Flip.{Flip}
 use Rattle.chare_eval.specs.Block.{Effect, block_runs, quiet}
 use Rattle.chare_eval.specs.Fold.{fold, fold_from}
-use Rattle.chare_eval.specs.Inside.{cells_between, cells_inside, is_done, found_in, messages_to, none_done, struck_at}
+use Rattle.chare_eval.specs.Inside.{cells_between, cells_inside, found_in, messages_to, none_done, struck_at}
 use Rattle.chare_eval.proofs.Steps.{found_came}
 use Rattle.chare_eval.specs.Laws.{AllDone, FoldIsShaped, PartRuns, PartsRunInAnyOrder, Reaches, StepsFollow, StrikesAreLocal}
 use Rattle.chare_eval.specs.Opening.{no_slip, opening, start_of, starts_from}
@@ -34,9 +34,8 @@ use Rattle.ref_messages.specs.declared.key.RefKey.{RefKey}
 use Rattle.ref_messages.specs.Laws.{KeysAreTold}
 use Rattle.ref_messages.specs.Queue.{Queue, from, key_order, message, same_key}
 use Rattle.ref_messages.proofs.Lawful.{bound_insert, bound_not_before}
-use Rattle.object_steps.specs.declared.ready.Ready.TheVariants as ready_as
-use Rattle.object_steps.specs.Laws.{AllAllowed, Allowed, Begins, Follows, FollowsOn, IsMessage, ObjectsFollow, Receives, Runs, Turn, TurnsFollow, after_turns, cells_at, struck_by, turned}
-use Rattle.object_steps.specs.Objects.{Fits, Progress, advanced, all_done, arrived, begun, can_run, key_of, mailed, need_of, ran, ready, started, taken}
+use Rattle.object_steps.specs.Laws.{Allowed, Begins, Follows, IsMessage, ObjectsFollow, Receives, Runs, Turn, TurnsFollow, cells_at, struck_by, turned}
+use Rattle.object_steps.specs.Objects.{Fits, Progress, advanced, all_done, arrived, begun, can_run, key_of, mailed, need_of, ran, started, taken}
 use Rattle.object_steps.specs.Turns.{Goes}
 use Rattle.object_steps.proofs.Turns.{each_of_all, goes}
 use Rattle.object_steps.proofs.Kept.{advanced_fits, begun_fits, mailed_fits, part_few, same_fits, started_fits, with_part}

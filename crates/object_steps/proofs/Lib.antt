@@ -3,3 +3,4 @@ pub mod Nodes
 pub mod Turns
 pub mod Kept
 pub mod Along
+pub mod Finding

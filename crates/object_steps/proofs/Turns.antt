@@ -1,6 +1,6 @@
 -- What an object answers when it is asked what it can do next.
 use Rattle.std.proofs.Common.{◌≡◌, ℕ, zero, suc, ◌+◌, ◌<◌, ◌≤◌, Bool, true, false, cond, List, [], ◌∷◌, length, refl, ap, sym, ◌∙◌, arith, subst, Option, Some, None, inl, inr}
-use Rattle.std.specs.Prelude.{is_some, ◌&&◌, ◌==◌, IfSome, slice_get, slice_set}
+use Rattle.std.specs.Prelude.{is_some, ◌==◌, IfSome, slice_get, slice_set}
 use Rattle.std.specs.Option.{option_or}
 use Rattle.std.proofs.lemmas.Bool.{and_from, and_parts, cases_lt}
 use Rattle.chare_base.specs.declared.message.Need.{Need}

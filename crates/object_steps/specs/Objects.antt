@@ -7,12 +7,15 @@ use Rattle.chare_base.specs.declared.message.Need.TheVariants as needs
 use Rattle.chare_base.specs.declared.message.Payload.{Payload}
 use Rattle.chare_base.specs.declared.message.Port.{Port}
 use Rattle.chare_base.specs.declared.message.Port.TheVariants as ports
+use Rattle.chare_base.specs.declared.message.Source.{Source}
+use Rattle.chare_base.specs.declared.message.Source.TheVariants as sources
 use Rattle.chare_base.specs.declared.plan.ElementId.{ElementId}
 use Rattle.chare_base.specs.declared.plan.Part.{Part}
 use Rattle.chare_base.specs.declared.plan.Place.{Place}
 use Rattle.chare_base.specs.declared.plan.Plan.{Plan}
 use Rattle.chare_base.specs.declared.plan.Spot.{Spot}
 use Rattle.chare_base.specs.Elements.{cells_of, elements, need_at, parts_at, place_of, steps_of}
+use Rattle.chare_base.specs.Entries.{source_of}
 use Rattle.chare_base.specs.Ports.{port_needed}
 use Rattle.chare_eval.specs.Block.{Effect, block}
 use Rattle.chare_eval.specs.Inside.{is_done, none_done}
@@ -71,6 +74,15 @@ arrived_at p e iteration mail port = found_at p e port (message mail (key_of ite
 
 abbrev pub arrived : Plan → Progress → Inbox
 arrived p o = arrived_at p o.element.0 o.done o.mail
+
+-- whether nobody stands where a message would come from
+abbrev pub is_edge : Source → Bool
+is_edge (sources.Element sender) = false
+is_edge (sources.Edge payload) = true
+
+abbrev pub is_at_edge : Plan → ℕ → Port → Bool
+is_at_edge p e (ports.Entry entry) = is_edge (source_of p entry.0 e)
+is_at_edge p e (ports.Total reduction) = false
 
 -- a part can run where it needs nothing or what it needs is there
 abbrev pub can_run : Inbox → Need → Bool

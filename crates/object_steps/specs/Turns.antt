@@ -1,5 +1,5 @@
 -- What an object's answers tell of it, and what its calls keep.
-use Rattle.std.specs.Prelude.{◌≡◌, ℕ, ◌<◌, Bool, true, false, slice_get, Option, Some, None}
+use Rattle.std.specs.Prelude.{◌≡◌, ℕ, ◌<◌, true, false, slice_get, Some, None}
 use Rattle.chare_base.specs.declared.message.Need.TheVariants as needs
 use Rattle.chare_base.specs.declared.message.Port.{Port}
 use Rattle.chare_base.specs.declared.plan.Part.{Part}

@@ -1,10 +1,10 @@
 //! What an object can do next.
 
-ghost use Rattle.std.specs.Prelude.{◌≡◌, ◌<◌, ◌≤◌, length, None};
+ghost use Rattle.std.specs.Prelude.{◌≡◌, ◌<◌, ◌≤◌, is_some, length, None};
 ghost use Rattle.chare_base.specs.Elements.{elements, place_of};
 ghost use Rattle.chare_base.specs.Ports.{port_needed};
 ghost use Rattle.chare_eval.specs.Inside.{is_done};
-ghost use Rattle.object_steps.specs.Objects.{arrived_at, awaited_from, can_run, needs_entry, ready_from};
+ghost use Rattle.object_steps.specs.Objects.{arrived_at, awaited_from, can_run, is_at_edge, is_edge, key_of, needs_entry, ready_from};
 
 use chare_base::message::{EntryId, Need, Payload, Port, Source};
 use chare_base::plan::{ElementId, Part, Place, Plan, Spot};
@@ -94,7 +94,57 @@ fn can_run(plan: &Plan, at: Standpoint<'_>, need: Need) -> bool
 {
     match need {
         Need::Nothing => true,
-        Need::Port(port) => arrived(plan, at, port).is_some(),
+        Need::Port(port) => is_there(plan, at, port),
+    }
+}
+
+// Under what the message is held that comes at a port in the iteration.
+fn key_of(at: Standpoint<'_>, port: Port) -> RefKey
+    ensures { result ≡ key_of at.entry.iteration port }
+{
+    RefKey {
+        iteration: at.iteration,
+        port,
+    }
+}
+
+// Whether the element finds something at a port. Where a message is held, it doesn't matter who stands there.
+#[tactic(auto, using(crate::proofs::Finding::held, crate::proofs::Finding::at_edge))]
+fn is_there(plan: &Plan, at: Standpoint<'_>, port: Port) -> bool
+    requires element { at.element.0 < elements plan.now }
+    requires place { at.place ≡ place_of plan.now at.element.0 }
+    ensures { result ≡ is_some (arrived_at plan.now at.entry.element.0 at.entry.iteration at.entry.mail.now port) }
+{
+    if at.mail.has(key_of(at, port)) {
+        return true;
+    }
+    is_at_edge(plan, at, port)
+}
+
+// Whether nobody stands where the message at a port would come from.
+#[tactic(auto, unfolding(chare_base::specs::Entries::source_of))]
+fn is_at_edge(plan: &Plan, at: Standpoint<'_>, port: Port) -> bool
+    requires element { at.element.0 < elements plan.now }
+    requires place { at.place ≡ place_of plan.now at.element.0 }
+    ensures { result ≡ is_at_edge plan.now at.entry.element.0 port }
+{
+    match port {
+        Port::Entry(entry) => {
+            if entry.0 as usize >= plan.entries.len() {
+                return true;
+            }
+            is_edge(plan.source_at(entry, at.element, at.place.index))
+        }
+        Port::Total(_) => false,
+    }
+}
+
+fn is_edge(source: Source) -> bool
+    ensures { result ≡ is_edge source }
+{
+    match source {
+        Source::Element(_) => false,
+        Source::Edge(_) => true,
     }
 }
 
@@ -105,10 +155,7 @@ pub(crate) fn arrived(plan: &Plan, at: Standpoint<'_>, port: Port) -> Option<Pay
     requires place { at.place ≡ place_of plan.now at.element.0 }
     ensures { result ≡ arrived_at plan.now at.entry.element.0 at.entry.iteration at.entry.mail.now port }
 {
-    let key = RefKey {
-        iteration: at.iteration,
-        port,
-    };
+    let key = key_of(at, port);
     match port {
         Port::Entry(entry) => {
             if entry.0 as usize >= plan.entries.len() {
