@@ -1,13 +1,13 @@
 -- Messages in two parts, of which all in the one come before all in the other: what a call on one part makes of both together.
-use Rattle.std.proofs.Common.{subst, ◌≡◌, ℕ, zero, suc, ◌<◌, Bool, true, false, cond, List, [], ◌∷◌, ◌++◌, length, take, drop, Option, Some, None, refl, ap, sym, ◌∙◌, arith, nat_le, Ordering, Less, Equal, Greater}
+use Rattle.std.proofs.Common.{subst, ◌≡◌, ℕ, zero, suc, ◌<◌, Bool, true, false, cond, List, [], ◌∷◌, ◌++◌, length, take, drop, Option, Some, None, Bor, refl, ap, sym, ◌∙◌, arith, nat_le, Ordering, Less, Equal, Greater}
 use Rattle.std.proofs.lemmas.List.{append-nil}
-use Rattle.std.specs.Prelude.{option_map, slice_index_or}
+use Rattle.std.specs.Prelude.{MatchOption, is_some, option_map, slice_index_or}
 use Rattle.std.specs.BTreeMap.{insert_entry}
 use Rattle.std.specs.Cmp.{IsTotalOrder}
 use Rattle.std.specs.List.{AllByRecursion, insert, remove}
 use Rattle.std.specs.List.Sorted.{IsStrictlySortedBy}
 use Rattle.std.specs.Map.{keys_of, lookup, remove_entry}
-use Rattle.std.specs.Option.{option_or}
+use Rattle.std.specs.Option.{option_copied, option_or}
 use Rattle.std.specs.Ordering.{is_eq, match_ordering, ordering_reverse}
 use Rattle.chare_base.specs.declared.message.Payload.{Payload}
 use Rattle.ref_messages.specs.declared.key.RefKey.{RefKey}
@@ -70,6 +70,44 @@ found_first key xs ys i x at is =
 
 pub found_rest : (key : RefKey) (xs ys : Entries) (r : Option Payload) → None ≡ place_of key xs → r ≡ lookup (same_key key) ys → r ≡ lookup (same_key key) (xs ++ ys)
 found_rest key xs ys r none is = is ∙ sym (both (same_key key) xs ys ∙ ap (λ o. option_or o (lookup (same_key key) ys)) (none_there key xs (sym none)))
+
+some_next : (o : Option ℕ) → is_some (option_map suc o) ≡ is_some o
+some_next None = refl
+some_next (Some i) = refl
+
+some_place : (key : RefKey) (xs : Entries) → is_some (place_of key xs) ≡ is_some (lookup (same_key key) xs)
+some_place key [] = refl
+some_place key (e ∷ xs) = by (same_key key e.0) (some_next (place_of key xs) ∙ some_place key xs)
+  where
+    by : (b : Bool) → is_some (option_map suc (place_of key xs)) ≡ is_some (lookup (same_key key) xs) →
+        is_some (cond b (Some 0) (option_map suc (place_of key xs))) ≡ is_some (cond b (Some e.1) (lookup (same_key key) xs))
+    by true rest = refl
+    by false rest = rest
+
+some_or : (a b : Option Payload) → is_some a ≡ true → is_some (option_or a b) ≡ true
+some_or None b h = absurd cc
+some_or (Some x) b h = refl
+
+none_or : (a b : Option Payload) → is_some a ≡ false → is_some (option_or a b) ≡ is_some b
+none_or None b h = refl
+none_or (Some x) b h = absurd cc
+
+pub has_first : (key : RefKey) (xs ys : Entries) (r : Bool) → r ≡ is_some (place_of key xs) → r ≡ true → r ≡ is_some (lookup (same_key key) (xs ++ ys))
+has_first key xs ys r is there =
+    there ∙ sym (ap is_some (both (same_key key) xs ys) ∙ some_or (lookup (same_key key) xs) (lookup (same_key key) ys) (sym (some_place key xs) ∙ sym is ∙ there))
+
+pub has_rest : (key : RefKey) (xs ys : Entries) (r : Bool) → is_some (place_of key xs) ≡ false → r ≡ is_some (lookup (same_key key) ys) → r ≡ is_some (lookup (same_key key) (xs ++ ys))
+has_rest key xs ys r none is =
+    is ∙ sym (ap is_some (both (same_key key) xs ys) ∙ none_or (lookup (same_key key) xs) (lookup (same_key key) ys) (sym (some_place key xs) ∙ none))
+
+-- the same of a message that is lent
+pub held_first : (key : RefKey) (xs ys : Entries) (i : ℕ) (x : RefKey × Payload) → Some i ≡ place_of key xs → x ≡ slice_index_or xs i x → lookup (same_key key) (xs ++ ys) ≡ Some x.1
+held_first key xs ys i x at is = sym (found_first key xs ys i x at is)
+
+pub held_rest : (key : RefKey) (xs ys : Entries) (r : Option (Bor Payload)) → None ≡ place_of key xs → option_copied r ≡ lookup (same_key key) ys →
+    MatchOption r (lookup (same_key key) (xs ++ ys) ≡ None) (λ payload. lookup (same_key key) (xs ++ ys) ≡ Some payload.now)
+held_rest key xs ys None none is = sym (found_rest key xs ys None none is)
+held_rest key xs ys (Some payload) none is = sym (found_rest key xs ys (Some payload.now) none is)
 
 -- ---- a message more
 
@@ -221,6 +259,16 @@ pub sorted_behind : (xs ys : Entries) → Sorted (xs ++ ys) → Sorted ys
 unfolding IsStrictlySortedBy
 sorted_behind [] ys sorted = sorted
 sorted_behind (e ∷ xs) ys sorted = sorted_behind xs ys sorted.1
+
+-- those before others
+below_ahead : (k : RefKey) (xs ys : Entries) → Below k (xs ++ ys) → Below k xs
+below_ahead k [] ys all = tt
+below_ahead k (e ∷ xs) ys all = (all.0, below_ahead k xs ys all.1)
+
+pub sorted_ahead : (xs ys : Entries) → Sorted (xs ++ ys) → Sorted xs
+unfolding IsStrictlySortedBy
+sorted_ahead [] ys sorted = tt
+sorted_ahead (e ∷ xs) ys sorted = (below_ahead e.0 xs ys sorted.0, sorted_ahead xs ys sorted.1)
 
 -- ---- as the calls make them
 

@@ -1,6 +1,6 @@
 //! Messages in the order of their keys.
 
-ghost use Rattle.std.specs.Prelude.{◌≡◌, ◌<◌, ◌==◌, ◌++◌, [], length, None, OnOk, OnErr, IfSome};
+ghost use Rattle.std.specs.Prelude.{◌≡◌, ◌<◌, ◌==◌, ◌++◌, [], length, is_some, MatchOption, None, OnOk, OnErr, IfSome};
 ghost use Rattle.std.specs.BTreeMap.{insert_entry};
 ghost use Rattle.std.specs.Cmp.{IsTotalOrder};
 ghost use Rattle.std.specs.List.Sorted.{IsStrictlySortedBy};
@@ -64,14 +64,22 @@ impl Messages {
         self.first.is_empty() && self.rest.is_empty()
     }
 
-    // The message under a key.
-    #[tactic(auto, using(crate::proofs::Beside::found_first, crate::proofs::Beside::found_rest))]
-    pub(crate) fn get(&self, key: RefKey) -> Option<Payload>
-        ensures { result ≡ lookup (same_key key) self.now }
+    // Whether there is a message under a key. No payload is looked at.
+    #[tactic(auto, using(crate::proofs::Beside::has_first, crate::proofs::Beside::has_rest))]
+    pub(crate) fn has(&self, key: RefKey) -> bool
+        ensures { result ≡ is_some (lookup (same_key key) self.now) }
+    {
+        place_of(self.first.as_slice(), key).is_some() || self.rest.contains_key(&key)
+    }
+
+    // The message under a key, where it lies.
+    #[tactic(auto, using(crate::proofs::Beside::held_first, crate::proofs::Beside::held_rest))]
+    pub(crate) fn get(&self, key: RefKey) -> Option<&Payload>
+        ensures { MatchOption result (lookup (same_key key) self.now ≡ None) (λ payload. lookup (same_key key) self.now ≡ Some payload.now) }
     {
         match place_of(self.first.as_slice(), key) {
-            Some(i) => Some(self.first[i].1),
-            None => self.rest.get(&key).copied(),
+            Some(i) => Some(&self.first[i].1),
+            None => self.rest.get(&key),
         }
     }
 
@@ -115,7 +123,7 @@ impl Messages {
         ensures left { self.new ≡ not_before k self.old }
         ensures ordered { IsStrictlySortedBy key_order (keys_of self.new) }
     {
-        self.first.retain(|entry| entry.0.iteration >= k);
+        drop_first(&mut self.first, k);
         drop_before(&mut self.rest, k);
     }
 }
@@ -154,13 +162,37 @@ fn above(messages: &[(RefKey, Payload)], key: RefKey) -> Option<usize>
 fn is_same(a: RefKey, b: RefKey) -> bool
     ensures { result ≡ same_key a b }
 {
-    matches!(a.cmp(&b), Ordering::Equal)
+    a.iteration == b.iteration && a.port == b.port
 }
 
 fn precedes(a: RefKey, b: RefKey) -> bool
     ensures { result ≡ precedes a b }
 {
-    matches!(a.cmp(&b), Ordering::Less)
+    if a.iteration != b.iteration {
+        return a.iteration < b.iteration;
+    }
+    matches!(a.port.cmp(&b.port), Ordering::Less)
+}
+
+// Takes the messages of iterations before `k` out. Keys ascend, so where the first message stays, all do, and none is moved.
+fn drop_first(held: &mut Vec<(RefKey, Payload)>, k: u64)
+    requires { IsStrictlySortedBy key_order (keys_of held.old.items) }
+    ensures { held.new.items ≡ not_before k held.old.items }
+{
+    if !begins_early(held.as_slice(), k) {
+        return;
+    }
+    held.retain(|entry| entry.0.iteration >= k);
+}
+
+// Whether the first message is of an iteration before `k`.
+fn begins_early(messages: &[(RefKey, Payload)], k: u64) -> bool
+    ensures { result ≡ begins_before k messages.now }
+{
+    match messages.first() {
+        Some(entry) => entry.0.iteration < k,
+        None => false,
+    }
 }
 
 // Takes the messages of iterations before `k` out. They come first, so the others aren't looked at.
@@ -169,6 +201,9 @@ fn drop_before(held: &mut BTreeMap<RefKey, Payload>, k: u64)
     ensures entries { held.new.entries ≡ not_before k held.old.entries }
     ensures ordered { IsStrictlySortedBy key_order (keys_of held.new.entries) }
 {
+    if held.is_empty() {
+        return;
+    }
     'entries: while begins_before(held, k) {
         held.pop_first();
     }

@@ -1,6 +1,6 @@
 //! The messages held, as a finite map from keys to payloads.
 
-ghost use Rattle.std.specs.Prelude.{◌≡◌, ◌==◌, ◌≤◌, if◌then◌else◌, nat_le, [], length, is_some, OnOk, OnErr, IfErr};
+ghost use Rattle.std.specs.Prelude.{◌≡◌, ◌==◌, ◌≤◌, if◌then◌else◌, nat_le, [], length, is_some, MatchOption, OnOk, OnErr, IfErr};
 ghost use Rattle.std.specs.List.Sorted.{IsStrictlySortedBy};
 ghost use Rattle.std.specs.Map.{keys_of};
 ghost use Rattle.ref_messages.specs.declared.key.RefKey.{RefKey};
@@ -65,12 +65,12 @@ impl RefQueue {
     pub fn has(&self, key: RefKey) -> bool
         ensures { result ≡ is_some (message self.now key) }
     {
-        self.held.get(key).is_some()
+        self.held.has(key)
     }
 
     /// The message under a key, if one is held. It stays.
-    pub fn get(&self, key: RefKey) -> Option<Payload>
-        ensures { result ≡ message self.now key }
+    pub fn get(&self, key: RefKey) -> Option<&Payload>
+        ensures { MatchOption result (message self.now key ≡ None) (λ payload. message self.now key ≡ Some payload.now) }
     {
         self.held.get(key)
     }
@@ -143,9 +143,9 @@ mod tests {
         queue.put(key(7, 1), one(71))?;
         queue.put(key(5, 2), one(52))?;
         queue.put(key(5, 1), one(51))?;
-        assert_eq!(rt; queue.get(key(5, 1)), Some(one(51)));
+        assert_eq!(rt; queue.get(key(5, 1)).copied(), Some(one(51)));
         assert_eq!(rt; queue.take(key(5, 1)), Some(one(51)));
-        assert_eq!(rt; queue.get(key(5, 1)), None);
+        assert_eq!(rt; queue.get(key(5, 1)).copied(), None);
         assert_eq!(rt; queue.take(key(7, 1)), Some(one(71)));
         assert_eq!(rt; queue.take(key(7, 2)), None);
         assert_eq!(rt; queue.take(key(5, 2)), Some(one(52)));
