@@ -1,5 +1,5 @@
 -- Which events can happen.
-use Rattle.std.specs.Prelude.{◌≡◌, ℕ, ◌+◌, suc, slice_get, slice_set, ◌&&◌, not, Bool, true, false, if◌then◌else◌, is_some, is_none, List, [], ◌∷◌, Option, Some, None}
+use Rattle.std.specs.Prelude.{◌≡◌, ℕ, ◌+◌, suc, drop, slice_get, slice_set, ◌&&◌, not, Bool, true, false, if◌then◌else◌, is_some, is_none, List, [], ◌∷◌, Option, Some, None}
 use Rattle.chare_base.specs.declared.message.EntryId.{EntryId}
 use Rattle.chare_base.specs.declared.plan.ElementId.{ElementId}
 use Rattle.chare_base.specs.declared.plan.Plan.{Plan}
@@ -11,7 +11,7 @@ use Rattle.letter_post.specs.declared.stamp.Stamp.{Stamp}
 use Rattle.letter_post.specs.Stamps.{same_stamp}
 use Rattle.node_core.specs.Keeps.{Fitted}
 use Rattle.object_steps.specs.Objects.{Progress}
-use Rattle.node_core.specs.Nodes.{NodeState, awaits_by, node_can_run, objects_of, rests}
+use Rattle.node_core.specs.Nodes.{NodeState, awaits_by, node_can_run, node_heard, objects_of, rests}
 use Rattle.node_core.specs.Rosters.{seat_of}
 use Rattle.world_core.specs.declared.doing.Doing.{Doing}
 use Rattle.world_core.specs.declared.doing.Doing.TheVariants as doings
@@ -19,9 +19,10 @@ use Rattle.world_core.specs.declared.doing.Readiness.{Readiness}
 use Rattle.world_core.specs.declared.doing.Readiness.TheVariants.{Behind, Ready, Awaits, Level, Past}
 use Rattle.world_core.specs.declared.doing.Reach.{Reach}
 use Rattle.world_core.specs.declared.doing.Reach.TheVariants.{Nobody, Message, Everybody}
+use Rattle.world_core.specs.declared.doing.Since.{Since}
 use Rattle.world_core.specs.declared.event.Event.{Event}
 use Rattle.world_core.specs.declared.event.Event.TheVariants as events
-use Rattle.world_core.specs.Worlds.{Setting, SlotState, WorldState, conductor_due, readiness, seats_of, slot_at, slot_doing, slot_move, stand}
+use Rattle.world_core.specs.Worlds.{Setting, SlotState, WorldState, back_after, conductor_due, readiness, seats_of, since_after, slot_at, slot_doing, slot_move, stand}
 
 abbrev pub setting : Plan → List Fault → List ℕ → ℕ → Setting
 setting p script place nodes = record { plan = p; script = script; place = place; nodes = nodes }
@@ -74,6 +75,16 @@ marked_by p top n Nobody seats = seats
 marked_by p top n (Message own to k entry) seats = if own then woken p n k entry (seat_of n.roster to.0) seats else seats
 marked_by p top n Everybody seats = seats_of p top n
 
+-- The first letter is a message for an element, and the node heard it; the letter still lies in front.
+pub record ParcelHeard (s : Setting) (box : List Letter) (n : NodeState) (kept : List Readiness) (after : NodeState) (seats : List Readiness) : Type 0 where
+  pub letter : Letter
+  pub first : box ≡ letter ∷ drop 1 box
+  pub heard : record { node = after; out = [] } ≡ node_heard s.plan s.script s.place letter n
+  pub marked : (top : ℕ) → seats ≡ marked_by s.plan top after (reach_of n.last.stamp letter) kept
+  -- such a letter is no order
+  pub back : (back : Option ℕ) → back_after letter back ≡ back
+  pub since : (since : Since) → since_after letter since ≡ since
+
 abbrev pub is_able : Readiness → Bool
 is_able Behind = true
 is_able Ready = true
@@ -118,6 +129,12 @@ pub record Fresh (p : Plan) (cut : CutState) (x : SlotState) : Type 0 where
   pub renews : Renews p cut x
   pub seats : x.seats ≡ seats_of p (stand cut x.node.slot).top x.node
   pub current : x.doing ≡ slot_doing p cut x
+
+-- a doing that leaves the agreement as it is
+abbrev pub is_work : Doing → Bool
+is_work doings.Hear = true
+is_work doings.Move = false
+is_work (doings.Run e) = true
 
 -- ---- which events can happen
 

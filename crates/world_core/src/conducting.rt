@@ -1,6 +1,6 @@
 //! The conductor's events: it hears a letter, or makes the move on the agreement that it wants.
 
-ghost use Rattle.std.specs.Prelude.{◌≡◌, ◌≤◌, ◌||◌, Bool, List, length, true, OnOk};
+ghost use Rattle.std.specs.Prelude.{◌≡◌, ◌≤◌, ◌&&◌, ◌||◌, Bool, List, length, true, OnOk};
 ghost use Rattle.std.specs.List.{AllByRecursion};
 ghost use Rattle.chare_base.specs.Elements.{elements};
 ghost use Rattle.conductor_core.specs.Conductors.{IsOf, conductor_did, wanted};
@@ -24,8 +24,8 @@ use iteration_agree::cut::Cut;
 use iteration_agree::round::{Round, Sight, Taking, number};
 use std::alloc::Global;
 
-/// Whether the agreement takes a move of the conductor.
-pub fn takes_move(cut: &Cut, wanted: CutMove) -> bool
+// Whether the agreement takes a move of the conductor.
+fn takes_move(cut: &Cut, wanted: CutMove) -> bool
     ensures { result ≡ takes_move cut.now wanted }
 {
     match wanted {
@@ -73,9 +73,9 @@ fn is_gather(round: Round) -> bool
     }
 }
 
-/// Whether a move that the conductor wants, and the agreement takes, is due: a look where some slot's sight differs from the
-/// last one that the conductor was given, a note where the slot reported in this round, any other at once.
-pub fn move_due(cut: &Cut, conductor: &Conductor, wanted: CutMove) -> bool
+// Whether a move that the conductor wants, and the agreement takes, is due: a look where some slot's sight differs from the
+// last one that the conductor was given, a note where the slot reported in this round, any other at once.
+fn move_due(cut: &Cut, conductor: &Conductor, wanted: CutMove) -> bool
     requires { takes_move cut.now wanted ≡ true }
     ensures { result ≡ move_due cut.now conductor.now wanted }
 {
@@ -140,6 +140,18 @@ fn same_cap(a: Option<u64>, b: Option<u64>) -> bool
     }
 }
 
+/// Whether the move that the conductor wants is one that the agreement takes, and is due.
+pub fn is_due(cut: &Cut, conductor: &Conductor) -> bool
+    ensures { result ≡ (takes_move cut.now (wanted conductor.now) && move_due cut.now conductor.now (wanted conductor.now)) }
+{
+    let wanted = conductor.wants();
+    if takes_move(cut, wanted) {
+        move_due(cut, conductor, wanted)
+    } else {
+        false
+    }
+}
+
 // ---- events
 
 /// The conductor hears its first letter, where there is one, and what it sends goes to inboxes.
@@ -157,8 +169,8 @@ pub fn hear_at_desk<M: Placement>(
     ensures { (script : List Fault) (cut : CutState) (over : Bool) → OnOk result (record { posts = record { slots = slots.new.items; desk = desk.new }; cut = cut; conductor = conductor.new; over = over } ≡ told_by (setting plan.now script (M.place map.now) (M.count map.now)) (record { posts = record { slots = slots.old.items; desk = desk.old }; cut = cut; conductor = conductor.old; over = over }) desk.old) }
 {
     if let Some(letter) = desk.take() {
-        let out = conductor.hear(alloc, plan, map, letter)?;
-        deliver(map.nodes(), out, slots, desk)?;
+        let mut out = conductor.hear(alloc, plan, map, letter)?;
+        deliver(map.nodes(), &mut out, slots, desk)?;
     }
     Ok(())
 }
@@ -307,7 +319,7 @@ fn answered<M: Placement>(
     requires nodes { IsOf (M.count map.now) conductor.old }
     ensures { (script : List Fault) (cut : CutState) (over : Bool) → OnOk result (record { posts = record { slots = slots.new.items; desk = desk.new }; cut = cut; conductor = conductor.new; over = over } ≡ did_in (setting plan.now script (M.place map.now) (M.count map.now)) (conductor_did plan.now (M.place map.now) answer conductor.old) (record { posts = record { slots = slots.old.items; desk = desk.old }; cut = cut; conductor = conductor.old; over = over })) }
 {
-    let out = conductor.did(alloc, plan, map, answer)?;
-    deliver(map.nodes(), out, slots, desk)?;
+    let mut out = conductor.did(alloc, plan, map, answer)?;
+    deliver(map.nodes(), &mut out, slots, desk)?;
     Ok(())
 }

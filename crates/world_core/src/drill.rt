@@ -24,6 +24,7 @@ use chare_base::slots::SlotId;
 use conductor_core::ending::Ending;
 use conductor_core::laws::conductors_tell;
 use fault_script::script::Script;
+use letter_post::outbox::Outbox;
 use std::alloc::Global;
 
 /// Runs a job by a schedule, each node with a block of elements, to its ending. Schedule 0 goes round the actors;
@@ -122,13 +123,14 @@ fn go<M: Placement>(
     // Its contract says that each node has an element, which every event relies on.
     let _ = map.nodes();
     let mut ready = Vec::new(alloc);
+    let mut out = Outbox::new(alloc);
     let mut left = turns;
     let mut chooser = chooser;
     while left > 0 {
         let Some((i, event)) = next_event(plan, map, world, chooser, &mut ready)? else {
             return Ok(());
         };
-        world.happen(alloc, plan, script, map, event)?;
+        world.happen(alloc, plan, script, map, event, &mut out)?;
         chooser = goes_on(chooser, i);
         left -= 1;
     }

@@ -1,6 +1,6 @@
 //! An inbox: letters in the order in which they came.
 
-ghost use Rattle.std.specs.Prelude.{◌≡◌, ◌++◌, ◌∷◌, [], MatchOption, OnOk, OnErr};
+ghost use Rattle.std.specs.Prelude.{◌≡◌, ◌++◌, ◌∷◌, ◌×◌, [], drop, MatchOption, OnOk, OnErr};
 ghost use Rattle.world_core.specs.Steps.{has_letter};
 
 use chare_base::memory::Memory;
@@ -50,6 +50,21 @@ impl Inbox {
     {
         self.letters.push_back(letter)?;
         Ok(())
+    }
+
+    /// The first letter, which stays; None exactly where there is none.
+    #[tactic(auto, using(crate::proofs::Firsts::first_is))]
+    pub fn first(&self) -> Option<&Letter>
+        ensures { MatchOption result (self.now ≡ []) (λ letter. self.now ≡ letter.now ∷ drop 1 self.now) }
+    {
+        self.letters.front()
+    }
+
+    /// Drops the first letter, where there is one.
+    pub fn forget_first(&mut self)
+        ensures { self.new ≡ drop 1 self.old }
+    {
+        self.letters.pop_front();
     }
 
     /// Takes out the first letter; None exactly where there is none. It takes no memory.

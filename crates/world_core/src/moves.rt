@@ -16,21 +16,21 @@ use node_core::node::Node;
 /// next iteration. None of a slot whose node is spent.
 pub fn move_of(
     plan: &Plan,
-    round: Round,
+    round: &Round,
     node: &Node,
-    standing: Standing,
+    standing: &Standing,
     back: Option<u64>,
     since: Since,
     seats: &SeatStates,
 ) -> Option<SlotMove>
-    requires seats { seats.now ≡ seats_of plan.now standing.top node.now }
+    requires seats { seats.now ≡ seats_of plan.now standing.now.top node.now }
     requires roster { node.now.roster.iterations ≡ plan.now.iterations }
-    ensures { result ≡ move_of plan.now round node.now standing back since }
+    ensures { result ≡ move_of plan.now round.now node.now standing.now back since }
 {
     if node.spent() {
         return None;
     }
-    if !same_round(standing.seen, round) {
+    if !same_round(standing.seen, *round) {
         return Some(SlotMove::See);
     }
     move_by(plan, node, standing, back, since, seats)
@@ -40,14 +40,14 @@ pub fn move_of(
 fn move_by(
     plan: &Plan,
     node: &Node,
-    standing: Standing,
+    standing: &Standing,
     back: Option<u64>,
     since: Since,
     seats: &SeatStates,
 ) -> Option<SlotMove>
-    requires seats { seats.now ≡ seats_of plan.now standing.top node.now }
+    requires seats { seats.now ≡ seats_of plan.now standing.now.top node.now }
     requires roster { node.now.roster.iterations ≡ plan.now.iterations }
-    ensures { result ≡ move_by plan.now node.now standing back since }
+    ensures { result ≡ move_by plan.now node.now standing.now back since }
 {
     match back {
         Some(base) => {
@@ -81,20 +81,20 @@ fn same_round(a: Round, b: Round) -> bool
 }
 
 // To the base that it was ordered back to, where the agreement lets it.
-fn may_go_back(base: u64, standing: Standing) -> bool
-    ensures { result ≡ may_go_back base standing }
+fn may_go_back(base: u64, standing: &Standing) -> bool
+    ensures { result ≡ may_go_back base standing.now }
 {
-    base <= 1_000_000 && (standing.cap.is_none() || goes_to(base, standing.seen))
+    base <= 1_000_000 && (standing.cap.is_none() || goes_to(base, &standing.seen))
 }
 
 // A slot that reported goes back to the floor or the agreed iteration that it saw at most.
-fn goes_to(base: u64, seen: Round) -> bool
-    ensures { result ≡ goes_to base seen }
+fn goes_to(base: u64, seen: &Round) -> bool
+    ensures { result ≡ goes_to base seen.now }
 {
     match seen {
         Round::Quiet { .. } => true,
-        Round::Gather { floor, .. } => base <= floor,
-        Round::Agreed { k, .. } => base <= k,
+        Round::Gather { floor, .. } => base <= *floor,
+        Round::Agreed { k, .. } => base <= *k,
     }
 }
 
@@ -102,29 +102,29 @@ fn goes_to(base: u64, seen: Round) -> bool
 fn move_on(
     plan: &Plan,
     node: &Node,
-    standing: Standing,
+    standing: &Standing,
     since: Since,
     seats: &SeatStates,
 ) -> Option<SlotMove>
     requires alive { rests node.now ≡ false }
-    requires seats { seats.now ≡ seats_of plan.now standing.top node.now }
+    requires seats { seats.now ≡ seats_of plan.now standing.now.top node.now }
     requires roster { node.now.roster.iterations ≡ plan.now.iterations }
-    ensures { result ≡ move_on plan.now node.now standing since }
+    ensures { result ≡ move_on plan.now node.now standing.now since }
 {
     if release_due(standing, since) {
         return Some(SlotMove::Release);
     }
-    if report_due(standing, standing.seen) {
+    if report_due(standing, &standing.seen) {
         return Some(SlotMove::Report);
     }
-    match pack_due(plan, node, standing, standing.seen, seats) {
+    match pack_due(plan, node, standing, &standing.seen, seats) {
         Some(k) => Some(SlotMove::Pack { k }),
         None => begin_due(plan, node, standing, seats),
     }
 }
 
-fn release_due(standing: Standing, since: Since) -> bool
-    ensures { result ≡ release_due standing since }
+fn release_due(standing: &Standing, since: Since) -> bool
+    ensures { result ≡ release_due standing.now since }
 {
     is_resumed(since) && !standing.free && standing.cap.is_none()
 }
@@ -139,8 +139,8 @@ fn is_resumed(since: Since) -> bool
     }
 }
 
-fn report_due(standing: Standing, seen: Round) -> bool
-    ensures { result ≡ report_due standing seen }
+fn report_due(standing: &Standing, seen: &Round) -> bool
+    ensures { result ≡ report_due standing.now seen.now }
 {
     match seen {
         Round::Quiet { .. } => false,
@@ -153,24 +153,24 @@ fn report_due(standing: Standing, seen: Round) -> bool
 fn pack_due(
     plan: &Plan,
     node: &Node,
-    standing: Standing,
-    seen: Round,
+    standing: &Standing,
+    seen: &Round,
     seats: &SeatStates,
 ) -> Option<u64>
     requires alive { rests node.now ≡ false }
-    requires seats { seats.now ≡ seats_of plan.now standing.top node.now }
-    ensures { result ≡ pack_due plan.now node.now standing seen }
+    requires seats { seats.now ≡ seats_of plan.now standing.now.top node.now }
+    ensures { result ≡ pack_due plan.now node.now standing.now seen.now }
 {
     match seen {
         Round::Quiet { .. } => None,
         Round::Gather { .. } => None,
         Round::Agreed { k, .. } => {
-            if standing.top == k
-                && k <= plan.iterations()
+            if standing.top == *k
+                && *k <= plan.iterations()
                 && !standing.packed
                 && all_level(plan, standing.top, node, seats)
             {
-                Some(k)
+                Some(*k)
             } else {
                 None
             }
@@ -194,10 +194,10 @@ fn all_level(plan: &Plan, top: u64, node: &Node, seats: &SeatStates) -> bool
 // The next iteration of its elements, where that is its top and no limit holds it: none of them would begin one before it,
 // and one would begin it.
 #[tactic(auto, using(crate::proofs::Counting::begins_at_top))]
-fn begin_due(plan: &Plan, node: &Node, standing: Standing, seats: &SeatStates) -> Option<SlotMove>
-    requires seats { seats.now ≡ seats_of plan.now standing.top node.now }
+fn begin_due(plan: &Plan, node: &Node, standing: &Standing, seats: &SeatStates) -> Option<SlotMove>
+    requires seats { seats.now ≡ seats_of plan.now standing.now.top node.now }
     requires roster { node.now.roster.iterations ≡ plan.now.iterations }
-    ensures { result ≡ begin_due standing (next_begin node.now) }
+    ensures { result ≡ begin_due standing.now (next_begin node.now) }
 {
     let _ = node;
     let next = begins_by(
@@ -216,8 +216,8 @@ fn begins_by(behind: usize, level: usize, top: u64, iterations: u64) -> bool
     behind == 0 && level > 0 && top < iterations
 }
 
-fn begin_if(next: bool, standing: Standing) -> Option<SlotMove>
-    ensures { result ≡ begin_if next standing }
+fn begin_if(next: bool, standing: &Standing) -> Option<SlotMove>
+    ensures { result ≡ begin_if next standing.now }
 {
     let k = standing.top;
     if next && k < 1_000_000 && is_below(k, limit_of(standing)) {
@@ -237,21 +237,21 @@ fn is_below(k: u64, limit: Option<u64>) -> bool
 }
 
 // The iteration from which on a slot begins nothing, if there is one.
-fn limit_of(standing: Standing) -> Option<u64>
-    ensures { result ≡ limit_of standing }
+fn limit_of(standing: &Standing) -> Option<u64>
+    ensures { result ≡ limit_of standing.now }
 {
     if !standing.free && standing.cap.is_none() {
         return Some(standing.top);
     }
-    limit_seen(standing, standing.seen)
+    limit_seen(standing, &standing.seen)
 }
 
-fn limit_seen(standing: Standing, seen: Round) -> Option<u64>
-    ensures { result ≡ limit_seen standing seen }
+fn limit_seen(standing: &Standing, seen: &Round) -> Option<u64>
+    ensures { result ≡ limit_seen standing.now seen.now }
 {
     match seen {
         Round::Quiet { .. } => None,
         Round::Gather { .. } => Some(standing.cap.unwrap_or(standing.top)),
-        Round::Agreed { k, .. } => Some(k),
+        Round::Agreed { k, .. } => Some(*k),
     }
 }

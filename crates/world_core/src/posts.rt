@@ -87,17 +87,18 @@ fn put_in(nodes: u16, sent: Sent, slots: &mut Vec<Slot>, desk: &mut Inbox) -> Re
     }
 }
 
-/// Puts all letters that were sent at the backs of their inboxes, in the order in which they were sent. A letter to no
-/// slot is dropped.
+/// Puts all letters that were sent at the backs of their inboxes, in the order in which they were sent, and leaves the
+/// outbox empty. A letter to no slot is dropped.
 ///
 /// `Memory`: an allocation was refused; some letters are lost.
 pub fn deliver(
     nodes: u16,
-    mut out: Outbox,
+    out: &mut Outbox,
     slots: &mut Vec<Slot>,
     desk: &mut Inbox,
 ) -> Result<(), Memory>
-    ensures { OnOk result (record { slots = slots.new.items; desk = desk.new } ≡ posted nodes out (record { slots = slots.old.items; desk = desk.old })) }
+    ensures posted { OnOk result (record { slots = slots.new.items; desk = desk.new } ≡ posted nodes out.old (record { slots = slots.old.items; desk = desk.old })) }
+    ensures empty { OnOk result (out.new ≡ []) }
 {
     while let Some(sent) = out.take() {
         put_in(nodes, sent, slots, desk)?;
@@ -105,7 +106,8 @@ pub fn deliver(
     Ok(())
 }
 
-/// A slot hears, moves or runs an element, and what it sends goes to inboxes.
+/// A slot hears, moves or runs an element, and what it sends goes to inboxes. The outbox is empty before and after: it is
+/// lent so that its memory is used again.
 ///
 /// `Memory`: an allocation was refused; the slots are of no further use.
 pub fn act_at<M: Placement>(
@@ -118,14 +120,17 @@ pub fn act_at<M: Placement>(
     cut: &mut Cut,
     slots: &mut Vec<Slot>,
     desk: &mut Inbox,
+    out: &mut Outbox,
 ) -> Result<(), Memory>
     requires place { length (M.place map.now) ≡ elements plan.now }
+    requires empty { out.old ≡ [] }
     requires served { AllByRecursion (Served (setting plan.now (faults_of script.now) (M.place map.now) (M.count map.now)) cut.old) slots.old.items }
-    ensures { (c : ConductorState) (over : Bool) → OnOk result (record { posts = record { slots = slots.new.items; desk = desk.new }; cut = cut.new; conductor = c; over = over } ≡ by_slot (setting plan.now (faults_of script.now) (M.place map.now) (M.count map.now)) slot (record { posts = record { slots = slots.old.items; desk = desk.old }; cut = cut.old; conductor = c; over = over }) (does (setting plan.now (faults_of script.now) (M.place map.now) (M.count map.now)) cut.old doing) (slot_at (M.count map.now) slots.old.items slot)) }
+    ensures empty { OnOk result (out.new ≡ []) }
+    ensures acted { (c : ConductorState) (over : Bool) → OnOk result (record { posts = record { slots = slots.new.items; desk = desk.new }; cut = cut.new; conductor = c; over = over } ≡ by_slot (setting plan.now (faults_of script.now) (M.place map.now) (M.count map.now)) slot (record { posts = record { slots = slots.old.items; desk = desk.old }; cut = cut.old; conductor = c; over = over }) (does (setting plan.now (faults_of script.now) (M.place map.now) (M.count map.now)) cut.old doing) (slot_at (M.count map.now) slots.old.items slot)) }
 {
     let nodes = map.nodes();
     if let Some(i) = find(nodes, slots.as_slice(), slot) {
-        let out = slots[i].act(alloc, plan, script, map, doing, cut)?;
+        slots[i].act(alloc, plan, script, map, doing, cut, out)?;
         deliver(nodes, out, slots, desk)?;
     }
     Ok(())

@@ -297,8 +297,8 @@ pub fn mark_by(
     }
 }
 
-// A message came to an element: only one that waits can have become able to run.
-fn wake(
+/// A message came to an element: only one that waits can have become able to run.
+pub fn wake(
     plan: &Plan,
     node: &Node,
     to: ElementId,

@@ -1,21 +1,23 @@
 //! A slot with its inbox.
 
-ghost use Rattle.std.specs.Prelude.{◌≡◌, ◌==◌, ◌&&◌, [], length, OnOk, IfOk, Some, None};
+ghost use Rattle.std.specs.Prelude.{◌≡◌, ◌==◌, ◌&&◌, ◌∷◌, ◌×◌, [], List, length, true, false, Ok, OnOk, IfOk, Some, None};
 ghost use Rattle.chare_base.specs.Elements.{elements};
 ghost use Rattle.fault_script.specs.Lines.{faults_of};
 ghost use Rattle.iteration_agree.specs.Cuts.{HasSlot, packed_by, slot_of};
-ghost use Rattle.node_core.specs.Nodes.{first_running, node_packed, out_of};
+ghost use Rattle.letter_post.specs.declared.letter.Letter.{Letter};
+ghost use Rattle.node_core.specs.Keeps.{Fitted};
+ghost use Rattle.node_core.specs.Nodes.{first_running, node_heard, node_packed};
 ghost use Rattle.node_core.specs.Starts.{start_state};
 ghost use Rattle.world_core.specs.declared.doing.Since.TheVariants.{Nothing};
 ghost use Rattle.world_core.specs.declared.doing.SlotMove.TheVariants.{Pack};
 ghost use Rattle.world_core.specs.Sound.{Served};
-ghost use Rattle.world_core.specs.Steps.{Fresh, Renews, can_hear, can_run_on, setting};
+ghost use Rattle.world_core.specs.Steps.{Fresh, ParcelHeard, Renews, can_hear, can_run_on, setting};
 ghost use Rattle.world_core.specs.Worlds.{MayMove, acted, back_by, run_due, shifted, with_back, again, back_after, does, doing_of, idle_doing, moved_in, ordered_after, renewed, resumed_after, seats_of, since_after, slot_heard, slot_move, slot_moved, slot_moved_by, slot_put, slot_ran};
 
 use crate::doing::{Doing, Since, SlotMove};
 use crate::inbox::Inbox;
 use crate::moves::move_of;
-use crate::seats::{SeatStates, mark, mark_by, reach_of, start_seats};
+use crate::seats::{SeatStates, mark, mark_by, reach_of, start_seats, wake};
 use chare_base::memory::Memory;
 use chare_base::placement::Placement;
 use chare_base::plan::{ElementId, Plan};
@@ -27,7 +29,6 @@ use letter_post::letter::Letter;
 use letter_post::outbox::Outbox;
 use node_core::laws::nodes_keep;
 use node_core::node::Node;
-use node_core::turn::Turn;
 use std::alloc::Global;
 use std::marker::Model;
 
@@ -75,9 +76,9 @@ impl Slot {
         start_seats(plan, standing.top, &node, &mut seats)?;
         let doing = idle_doing(
             plan,
-            cut.round(),
+            &cut.round(),
             &node,
-            standing,
+            &standing,
             None,
             Since::Nothing,
             &mut seats,
@@ -130,9 +131,9 @@ impl Slot {
     {
         move_of(
             plan,
-            cut.round(),
+            &cut.round(),
             &self.node,
-            cut.standing(self.node.slot()),
+            &cut.standing(self.node.slot()),
             self.back,
             self.since,
             &self.seats,
@@ -162,8 +163,8 @@ impl Slot {
         start_seats(plan, standing.top, &self.node, &mut self.seats)?;
         self.doing = doing_of(
             plan,
-            cut.round(),
-            standing,
+            &cut.round(),
+            &standing,
             &self.node,
             &self.inbox,
             self.back,
@@ -177,17 +178,17 @@ impl Slot {
 // What a slot would do next.
 fn doing_of(
     plan: &Plan,
-    round: Round,
-    standing: Standing,
+    round: &Round,
+    standing: &Standing,
     node: &Node,
     inbox: &Inbox,
     back: Option<u64>,
     since: Since,
     seats: &mut SeatStates,
 ) -> Option<Doing>
-    requires seats { seats.old ≡ seats_of plan.now standing.top node.now }
+    requires seats { seats.old ≡ seats_of plan.now standing.now.top node.now }
     requires roster { node.now.roster.iterations ≡ plan.now.iterations }
-    ensures doing { result ≡ doing_of plan.now round standing node.now inbox.now back since }
+    ensures doing { result ≡ doing_of plan.now round.now standing.now node.now inbox.now back since }
     ensures stays { seats.new ≡ seats.old }
 {
     if inbox.has_letter() {
@@ -199,16 +200,16 @@ fn doing_of(
 
 fn idle_doing(
     plan: &Plan,
-    round: Round,
+    round: &Round,
     node: &Node,
-    standing: Standing,
+    standing: &Standing,
     back: Option<u64>,
     since: Since,
     seats: &mut SeatStates,
 ) -> Option<Doing>
-    requires seats { seats.old ≡ seats_of plan.now standing.top node.now }
+    requires seats { seats.old ≡ seats_of plan.now standing.now.top node.now }
     requires roster { node.now.roster.iterations ≡ plan.now.iterations }
-    ensures doing { result ≡ idle_doing plan.now round node.now standing back since }
+    ensures doing { result ≡ idle_doing plan.now round.now node.now standing.now back since }
     ensures stays { seats.new ≡ seats.old }
 {
     match move_of(plan, round, node, standing, back, since, seats) {
@@ -258,7 +259,7 @@ fn first_running(plan: &Plan, node: &Node, top: u64, seats: &mut SeatStates) -> 
 // ---- events
 
 impl Slot {
-    /// It hears, moves or runs an element. What it sends is answered.
+    /// It hears, moves or runs an element. What it sends is put into an outbox, which is empty before.
     ///
     /// `Memory`: an allocation was refused; the slot is of no further use.
     pub fn act<M: Placement>(
@@ -269,15 +270,17 @@ impl Slot {
         map: &M,
         doing: Doing,
         cut: &mut Cut,
-    ) -> Result<Outbox, Memory>
+        out: &mut Outbox,
+    ) -> Result<(), Memory>
         requires place { length (M.place map.now) ≡ elements plan.now }
         requires served { Served (setting plan.now (faults_of script.now) (M.place map.now) (M.count map.now)) cut.old self.old }
-        ensures { IfOk result (λ out. record { slot = self.new; cut = cut.new; out = out } ≡ does (setting plan.now (faults_of script.now) (M.place map.now) (M.count map.now)) cut.old doing self.old) }
+        requires empty { out.old ≡ [] }
+        ensures { OnOk result (record { slot = self.new; cut = cut.new; out = out.new } ≡ does (setting plan.now (faults_of script.now) (M.place map.now) (M.count map.now)) cut.old doing self.old) }
     {
         match doing {
-            Doing::Hear => self.hear(alloc, plan, script, map, cut),
-            Doing::Move => self.make_move(alloc, plan, script, map, cut),
-            Doing::Run(e) => self.run(alloc, plan, script, map, e, cut),
+            Doing::Hear => self.hear(alloc, plan, script, map, cut, out),
+            Doing::Move => self.make_move(alloc, plan, script, map, cut, out),
+            Doing::Run(e) => self.run(alloc, plan, script, map, e, cut, out),
         }
     }
 
@@ -290,25 +293,26 @@ impl Slot {
         map: &M,
         e: ElementId,
         cut: &Cut,
-    ) -> Result<Outbox, Memory>
+        out: &mut Outbox,
+    ) -> Result<(), Memory>
         requires place { length (M.place map.now) ≡ elements plan.now }
         requires served { Served (setting plan.now (faults_of script.now) (M.place map.now) (M.count map.now)) cut.now self.old }
-        ensures { IfOk result (λ out. record { slot = self.new; cut = cut.now; out = out } ≡ slot_ran (setting plan.now (faults_of script.now) (M.place map.now) (M.count map.now)) cut.now e self.old) }
+        requires empty { out.old ≡ [] }
+        ensures { OnOk result (record { slot = self.new; cut = cut.now; out = out.new } ≡ slot_ran (setting plan.now (faults_of script.now) (M.place map.now) (M.count map.now)) cut.now e self.old) }
     {
         nodes_keep();
         if self.back.is_some() {
-            return Ok(Outbox::new(alloc));
+            return Ok(());
         }
         let standing = cut.standing(self.node.slot());
-        let turn = self
-            .node
-            .run_element(alloc, plan, script, map, e, standing.top)?;
+        self.node
+            .run_into(alloc, plan, script, map, e, standing.top, out)?;
         mark(plan, standing.top, &self.node, e, &mut self.seats);
-        self.tell(plan, cut.round(), standing);
-        Ok(sent_by(alloc, turn))
+        self.tell(plan, &cut.round(), &standing);
+        Ok(())
     }
 
-    // Hears its first letter, where there is one.
+    // Hears its first letter, where there is one. A message for an element is read where it lies.
     fn hear<M: Placement>(
         &mut self,
         alloc: Global,
@@ -316,10 +320,44 @@ impl Slot {
         script: &Script,
         map: &M,
         cut: &Cut,
-    ) -> Result<Outbox, Memory>
+        out: &mut Outbox,
+    ) -> Result<(), Memory>
         requires place { length (M.place map.now) ≡ elements plan.now }
         requires served { Served (setting plan.now (faults_of script.now) (M.place map.now) (M.count map.now)) cut.now self.old }
-        ensures { IfOk result (λ out. record { slot = self.new; cut = cut.now; out = out } ≡ slot_heard (setting plan.now (faults_of script.now) (M.place map.now) (M.count map.now)) cut.now self.old self.old.box) }
+        requires empty { out.old ≡ [] }
+        ensures { OnOk result (record { slot = self.new; cut = cut.now; out = out.new } ≡ slot_heard (setting plan.now (faults_of script.now) (M.place map.now) (M.count map.now)) cut.now self.old self.old.box) }
+    {
+        nodes_keep();
+        if hear_parcel(
+            plan,
+            script,
+            map,
+            &self.inbox,
+            &mut self.node,
+            &mut self.seats,
+        )? {
+            self.inbox.forget_first();
+            let standing = cut.standing(self.node.slot());
+            self.tell(plan, &cut.round(), &standing);
+            return Ok(());
+        }
+        self.hear_letter(alloc, plan, script, map, cut, out)
+    }
+
+    // Hears its first letter, where there is one, whatever it is.
+    fn hear_letter<M: Placement>(
+        &mut self,
+        alloc: Global,
+        plan: &Plan,
+        script: &Script,
+        map: &M,
+        cut: &Cut,
+        out: &mut Outbox,
+    ) -> Result<(), Memory>
+        requires place { length (M.place map.now) ≡ elements plan.now }
+        requires served { Served (setting plan.now (faults_of script.now) (M.place map.now) (M.count map.now)) cut.now self.old }
+        requires empty { out.old ≡ [] }
+        ensures { OnOk result (record { slot = self.new; cut = cut.now; out = out.new } ≡ slot_heard (setting plan.now (faults_of script.now) (M.place map.now) (M.count map.now)) cut.now self.old self.old.box) }
     {
         nodes_keep();
         match self.inbox.take() {
@@ -328,20 +366,20 @@ impl Slot {
                 let reach = reach_of(self.node.stamp(), &letter);
                 self.back = back_after(&letter, self.back);
                 self.since = since_after(&letter, self.since);
-                let out = self.node.hear(alloc, plan, script, map, letter)?;
+                *out = self.node.hear(alloc, plan, script, map, letter)?;
                 mark_by(plan, standing.top, &self.node, reach, &mut self.seats)?;
-                self.tell(plan, cut.round(), standing);
-                Ok(out)
+                self.tell(plan, &cut.round(), &standing);
+                Ok(())
             }
-            None => Ok(Outbox::new(alloc)),
+            None => Ok(()),
         }
     }
 
     // What it would do next, after an event that left what it keeps of its objects right.
-    fn tell(&mut self, plan: &Plan, round: Round, standing: Standing)
-        requires seats { self.old.seats ≡ seats_of plan.now standing.top self.old.node }
+    fn tell(&mut self, plan: &Plan, round: &Round, standing: &Standing)
+        requires seats { self.old.seats ≡ seats_of plan.now standing.now.top self.old.node }
         requires roster { self.old.node.roster.iterations ≡ plan.now.iterations }
-        ensures { self.new ≡ record { node = self.old.node; box = self.old.box; back = self.old.back; since = self.old.since; seats = self.old.seats; doing = doing_of plan.now round standing self.old.node self.old.box self.old.back self.old.since } }
+        ensures { self.new ≡ record { node = self.old.node; box = self.old.box; back = self.old.back; since = self.old.since; seats = self.old.seats; doing = doing_of plan.now round.now standing.now self.old.node self.old.box self.old.back self.old.since } }
     {
         self.doing = doing_of(
             plan,
@@ -363,13 +401,15 @@ impl Slot {
         script: &Script,
         map: &M,
         cut: &mut Cut,
-    ) -> Result<Outbox, Memory>
+        out: &mut Outbox,
+    ) -> Result<(), Memory>
         requires served { Served (setting plan.now (faults_of script.now) (M.place map.now) (M.count map.now)) cut.old self.old }
-        ensures { IfOk result (λ out. record { slot = self.new; cut = cut.new; out = out } ≡ slot_moved (setting plan.now (faults_of script.now) (M.place map.now) (M.count map.now)) cut.old self.old) }
+        requires empty { out.old ≡ [] }
+        ensures { OnOk result (record { slot = self.new; cut = cut.new; out = out.new } ≡ slot_moved (setting plan.now (faults_of script.now) (M.place map.now) (M.count map.now)) cut.old self.old) }
     {
         match self.due_move(plan, cut) {
-            None => Ok(Outbox::new(alloc)),
-            Some(due) => self.make(alloc, plan, script, map, due, cut),
+            None => Ok(()),
+            Some(due) => self.make(alloc, plan, script, map, due, cut, out),
         }
     }
 
@@ -382,38 +422,33 @@ impl Slot {
         map: &M,
         due: SlotMove,
         cut: &mut Cut,
-    ) -> Result<Outbox, Memory>
+        out: &mut Outbox,
+    ) -> Result<(), Memory>
         requires served { Served (setting plan.now (faults_of script.now) (M.place map.now) (M.count map.now)) cut.old self.old }
         requires due { slot_move plan.now cut.old self.old ≡ Some due }
-        ensures { IfOk result (λ out. record { slot = self.new; cut = cut.new; out = out } ≡ slot_moved_by (setting plan.now (faults_of script.now) (M.place map.now) (M.count map.now)) cut.old self.old (Some due)) }
+        requires empty { out.old ≡ [] }
+        ensures { OnOk result (record { slot = self.new; cut = cut.new; out = out.new } ≡ slot_moved_by (setting plan.now (faults_of script.now) (M.place map.now) (M.count map.now)) cut.old self.old (Some due)) }
     {
         match due {
-            SlotMove::See => self.shift(alloc, plan, due, cut),
-            SlotMove::Rewind { .. } => self.shift(alloc, plan, due, cut),
-            SlotMove::Release => self.shift(alloc, plan, due, cut),
-            SlotMove::Report => self.shift(alloc, plan, due, cut),
-            SlotMove::Pack { k } => self.pack(alloc, plan, script, map, k, cut),
-            SlotMove::Begin { .. } => self.shift(alloc, plan, due, cut),
+            SlotMove::See => self.shift(plan, due, cut),
+            SlotMove::Rewind { .. } => self.shift(plan, due, cut),
+            SlotMove::Release => self.shift(plan, due, cut),
+            SlotMove::Report => self.shift(plan, due, cut),
+            SlotMove::Pack { k } => self.pack(alloc, plan, script, map, k, cut, out),
+            SlotMove::Begin { .. } => self.shift(plan, due, cut),
         }
     }
 }
 
 impl Slot {
     // Makes a move that touches the agreement alone.
-    fn shift(
-        &mut self,
-        alloc: Global,
-        plan: &Plan,
-        due: SlotMove,
-        cut: &mut Cut,
-    ) -> Result<Outbox, Memory>
+    fn shift(&mut self, plan: &Plan, due: SlotMove, cut: &mut Cut) -> Result<(), Memory>
         requires renews { Renews plan.now cut.old self.old }
         requires may { MayMove due (slot_of cut.old self.old.node.slot) }
-        ensures { IfOk result (λ out. record { slot = self.new; cut = cut.new; out = out } ≡ moved_in plan.now self.old due cut.old) }
+        ensures { OnOk result (record { slot = self.new; cut = cut.new; out = [] } ≡ moved_in plan.now self.old due cut.old) }
     {
         self.move_in(due, cut);
-        self.renew(plan, cut)?;
-        Ok(Outbox::new(alloc))
+        self.renew(plan, cut)
     }
 
     // Makes a move on the agreement that isn't a pack.
@@ -452,19 +487,54 @@ impl Slot {
         map: &M,
         k: u64,
         cut: &mut Cut,
-    ) -> Result<Outbox, Memory>
+        out: &mut Outbox,
+    ) -> Result<(), Memory>
         requires served { Served (setting plan.now (faults_of script.now) (M.place map.now) (M.count map.now)) cut.old self.old }
         requires due { slot_move plan.now cut.old self.old ≡ Some (Pack k) }
-        ensures { IfOk result (λ out. record { slot = self.new; cut = cut.new; out = out } ≡ acted plan.now (packed_by self.old.node.slot cut.old) (node_packed plan.now (faults_of script.now) k self.old.node) self.old.box self.old.back Nothing) }
+        requires empty { out.old ≡ [] }
+        ensures { OnOk result (record { slot = self.new; cut = cut.new; out = out.new } ≡ acted plan.now (packed_by self.old.node.slot cut.old) (node_packed plan.now (faults_of script.now) k self.old.node) self.old.box self.old.back Nothing) }
     {
         let _ = map;
         nodes_keep();
         let slot = self.node.slot();
-        let out = self.node.pack(alloc, plan, script, k)?;
+        *out = self.node.pack(alloc, plan, script, k)?;
         cut.pack(slot);
         self.since = Since::Nothing;
-        self.renew(plan, cut)?;
-        Ok(out)
+        self.renew(plan, cut)
+    }
+}
+
+// Hears the first letter where that is a message for an element, and answers whether it is. The letter stays.
+fn hear_parcel<M: Placement>(
+    plan: &Plan,
+    script: &Script,
+    map: &M,
+    inbox: &Inbox,
+    node: &mut Node,
+    seats: &mut SeatStates,
+) -> Result<bool, Memory>
+    requires fits { (letter : Letter) (more : List Letter) → inbox.now ≡ letter ∷ more → Fitted plan.now (node_heard plan.now (faults_of script.now) (M.place map.now) letter node.old).node }
+    ensures heard { result ≡ Ok true → ParcelHeard (setting plan.now (faults_of script.now) (M.place map.now) (M.count map.now)) inbox.now node.old seats.old node.new seats.new }
+    ensures stays { result ≡ Ok false → (node.new ≡ node.old) × (seats.new ≡ seats.old) }
+{
+    let _ = script;
+    let _ = map;
+    match inbox.first() {
+        Some(Letter::Parcel {
+            stamp,
+            entry,
+            iteration,
+            to,
+            payload,
+        }) => {
+            let own = stamp.is_same(node.stamp());
+            node.hear_parcel(*stamp, *entry, *iteration, *to, payload)?;
+            if own {
+                wake(plan, node, *to, *iteration, *entry, seats);
+            }
+            Ok(true)
+        }
+        _ => Ok(false),
     }
 }
 
@@ -525,17 +595,5 @@ fn resumed_after(since: Since) -> Since
         Since::Nothing => Since::Nothing,
         Since::Ordered => Since::Resumed,
         Since::Resumed => Since::Resumed,
-    }
-}
-
-// The letters of a turn.
-fn sent_by(alloc: Global, turn: Turn) -> Outbox
-    ensures { result ≡ out_of turn }
-{
-    match turn {
-        Turn::Ran { outbox, .. } => outbox,
-        Turn::Held => Outbox::new(alloc),
-        Turn::Awaits => Outbox::new(alloc),
-        Turn::Dies { .. } => Outbox::new(alloc),
     }
 }

@@ -1,14 +1,18 @@
 //! The world of a run.
 
-ghost use Rattle.std.specs.Prelude.{◌≡◌, ◌≤◌, ◌↔◌, ℕ, List, [], length, true, false, Err, OnOk, IfOk, OnErr, MatchOption, is_some, None, Some, IfSome, IsNone};
+ghost use Rattle.std.specs.Prelude.{◌≡◌, ◌≤◌, ◌↔◌, ◌&&◌, ℕ, List, [], length, true, false, Err, OnOk, IfOk, OnErr, MatchOption, is_some, None, Some, IfSome, IsNone};
 ghost use Rattle.std.specs.List.{AllByRecursion};
+ghost use Rattle.std.specs.Option.{ForSome};
 ghost use Rattle.chare_base.specs.Elements.{elements};
+ghost use Rattle.conductor_core.specs.Conductors.{IsOf, wanted};
+ghost use Rattle.fault_script.specs.declared.fault.Fault.{Fault};
 ghost use Rattle.fault_script.specs.Lines.{faults_of};
+ghost use Rattle.world_core.specs.declared.doing.Doing.TheVariants.{Move};
 ghost use Rattle.world_core.specs.Sound.{Serves};
-ghost use Rattle.world_core.specs.Steps.{Fresh, can_act, is_enabled, setting};
-ghost use Rattle.world_core.specs.Worlds.{by_slot, conductor_due, desk_event, does, enabled, happens, opening_world, slot_at};
+ghost use Rattle.world_core.specs.Steps.{Fresh, Renews, can_act, is_enabled, is_work, setting};
+ghost use Rattle.world_core.specs.Worlds.{by_slot, conductor_due, conductor_moved, desk_event, does, enabled, happens, move_due, opening_world, slot_at, takes_move, told_by};
 
-use crate::conducting::{hear_at_desk, move_conductor, move_due, takes_move};
+use crate::conducting::{hear_at_desk, is_due, move_conductor};
 use crate::doing::Doing;
 use crate::event::{Actor, Event};
 use crate::fault::StepFault;
@@ -24,6 +28,7 @@ use conductor_core::conductor::Conductor;
 use conductor_core::ending::Ending;
 use fault_script::script::Script;
 use iteration_agree::cut::Cut;
+use letter_post::outbox::Outbox;
 use std::alloc::Global;
 use std::marker::Model;
 
@@ -39,6 +44,9 @@ pub struct World {
     cut: Cut,
     conductor: Conductor,
     over: bool,
+    // Whether the conductor's move is due, where that is known: what slots hear and run doesn't change it.
+    due: Option<bool>,
+    ghost told: { ForSome due (λ d. d ≡ (takes_move cut (wanted conductor) && move_due cut conductor (wanted conductor))) },
 }
 
 impl Model for World {
@@ -70,12 +78,15 @@ impl World {
         let cut = Cut::start(alloc, options.nodes)?;
         start_slots(alloc, plan, script, map, 0, &cut, &mut slots)?;
         start_slots(alloc, plan, script, map, 1, &cut, &mut slots)?;
+        let conductor = Conductor::start(alloc, plan, script, options)?;
+        let due = is_due(&cut, &conductor);
         Ok(World {
             slots,
             desk: Inbox::new(alloc),
             cut,
-            conductor: Conductor::start(alloc, plan, script, options)?,
+            conductor,
             over: false,
+            due: Some(due),
         })
     }
 
@@ -155,11 +166,9 @@ impl World {
     fn conductor_due(&self) -> bool
         ensures { result ≡ conductor_due self.now }
     {
-        let wanted = self.conductor.wants();
-        if takes_move(&self.cut, wanted) {
-            move_due(&self.cut, &self.conductor, wanted)
-        } else {
-            false
+        match self.due {
+            Some(due) => due,
+            None => is_due(&self.cut, &self.conductor),
         }
     }
 
@@ -185,7 +194,8 @@ impl World {
         if !self.is_enabled(plan, map, event) {
             return Err(StepFault::NotEnabled);
         }
-        match self.happen(alloc, plan, script, map, event) {
+        let mut out = Outbox::new(alloc);
+        match self.happen(alloc, plan, script, map, event, &mut out) {
             Ok(()) => Ok(()),
             Err(Memory) => {
                 self.over = true;
@@ -194,7 +204,7 @@ impl World {
         }
     }
 
-    // An event happens, enabled or not.
+    // An event happens, enabled or not. The outbox is lent so that its memory is used again.
     #[tactic(auto, unfolding(crate::specs::Worlds::happens))]
     pub(crate) fn happen<M: Placement>(
         &mut self,
@@ -203,37 +213,74 @@ impl World {
         script: &Script,
         map: &M,
         event: Event,
+        out: &mut Outbox,
     ) -> Result<(), Memory>
         requires place { length (M.place map.now) ≡ elements plan.now }
         requires serves { Serves (setting plan.now (faults_of script.now) (M.place map.now) (M.count map.now)) self.old }
-        ensures { OnOk result (self.new ≡ happens (setting plan.now (faults_of script.now) (M.place map.now) (M.count map.now)) self.old event) }
+        requires empty { out.old ≡ [] }
+        ensures happens { OnOk result (self.new ≡ happens (setting plan.now (faults_of script.now) (M.place map.now) (M.count map.now)) self.old event) }
+        ensures empty { OnOk result (out.new ≡ []) }
     {
         match event {
             Event::Run { slot, element } => {
-                self.slot_acts(alloc, plan, script, map, slot, Doing::Run(element))
+                self.slot_works(alloc, plan, script, map, slot, Doing::Run(element), out)
             }
-            Event::Hear { slot } => self.slot_acts(alloc, plan, script, map, slot, Doing::Hear),
-            Event::Move { slot } => self.slot_acts(alloc, plan, script, map, slot, Doing::Move),
-            Event::ConductorHear => hear_at_desk(
-                alloc,
-                plan,
-                map,
-                &mut self.conductor,
-                &mut self.slots,
-                &mut self.desk,
-            ),
-            Event::ConductorMove => move_conductor(
-                alloc,
-                plan,
-                map,
-                &mut self.cut,
-                &mut self.conductor,
-                &mut self.slots,
-                &mut self.desk,
-            ),
+            Event::Hear { slot } => {
+                self.slot_works(alloc, plan, script, map, slot, Doing::Hear, out)
+            }
+            Event::Move { slot } => self.slot_moves(alloc, plan, script, map, slot, out),
+            Event::ConductorHear => self.conductor_hears(alloc, plan, map),
+            Event::ConductorMove => self.conductor_moves(alloc, plan, map),
         }
     }
 
+    // A slot hears or runs an element, which leaves the agreement and the conductor as they are, and so what is known of
+    // the conductor's move.
+    fn slot_works<M: Placement>(
+        &mut self,
+        alloc: Global,
+        plan: &Plan,
+        script: &Script,
+        map: &M,
+        slot: SlotId,
+        doing: Doing,
+        out: &mut Outbox,
+    ) -> Result<(), Memory>
+        requires place { length (M.place map.now) ≡ elements plan.now }
+        requires serves { Serves (setting plan.now (faults_of script.now) (M.place map.now) (M.count map.now)) self.old }
+        requires works { is_work doing ≡ true }
+        requires empty { out.old ≡ [] }
+        ensures acted { OnOk result (self.new ≡ by_slot (setting plan.now (faults_of script.now) (M.place map.now) (M.count map.now)) slot self.old (does (setting plan.now (faults_of script.now) (M.place map.now) (M.count map.now)) self.old.cut doing) (slot_at (M.count map.now) self.old.posts.slots slot)) }
+        ensures empty { OnOk result (out.new ≡ []) }
+    {
+        let due = self.due;
+        self.slot_acts(alloc, plan, script, map, slot, doing, out)?;
+        self.due = due;
+        Ok(())
+    }
+
+    // A slot makes its move on the agreement, after which another move of the conductor may be due.
+    fn slot_moves<M: Placement>(
+        &mut self,
+        alloc: Global,
+        plan: &Plan,
+        script: &Script,
+        map: &M,
+        slot: SlotId,
+        out: &mut Outbox,
+    ) -> Result<(), Memory>
+        requires place { length (M.place map.now) ≡ elements plan.now }
+        requires serves { Serves (setting plan.now (faults_of script.now) (M.place map.now) (M.count map.now)) self.old }
+        requires empty { out.old ≡ [] }
+        ensures acted { OnOk result (self.new ≡ by_slot (setting plan.now (faults_of script.now) (M.place map.now) (M.count map.now)) slot self.old (does (setting plan.now (faults_of script.now) (M.place map.now) (M.count map.now)) self.old.cut Move) (slot_at (M.count map.now) self.old.posts.slots slot)) }
+        ensures empty { OnOk result (out.new ≡ []) }
+    {
+        self.slot_acts(alloc, plan, script, map, slot, Doing::Move, out)?;
+        self.due = Some(is_due(&self.cut, &self.conductor));
+        Ok(())
+    }
+
+    // A slot acts, and what was known of the conductor's move is forgotten.
     fn slot_acts<M: Placement>(
         &mut self,
         alloc: Global,
@@ -242,11 +289,15 @@ impl World {
         map: &M,
         slot: SlotId,
         doing: Doing,
+        out: &mut Outbox,
     ) -> Result<(), Memory>
         requires place { length (M.place map.now) ≡ elements plan.now }
         requires serves { Serves (setting plan.now (faults_of script.now) (M.place map.now) (M.count map.now)) self.old }
-        ensures { OnOk result (self.new ≡ by_slot (setting plan.now (faults_of script.now) (M.place map.now) (M.count map.now)) slot self.old (does (setting plan.now (faults_of script.now) (M.place map.now) (M.count map.now)) self.old.cut doing) (slot_at (M.count map.now) self.old.posts.slots slot)) }
+        requires empty { out.old ≡ [] }
+        ensures acted { OnOk result (self.new ≡ by_slot (setting plan.now (faults_of script.now) (M.place map.now) (M.count map.now)) slot self.old (does (setting plan.now (faults_of script.now) (M.place map.now) (M.count map.now)) self.old.cut doing) (slot_at (M.count map.now) self.old.posts.slots slot)) }
+        ensures empty { OnOk result (out.new ≡ []) }
     {
+        self.due = None;
         act_at(
             alloc,
             plan,
@@ -257,7 +308,55 @@ impl World {
             &mut self.cut,
             &mut self.slots,
             &mut self.desk,
+            out,
         )
+    }
+
+    fn conductor_hears<M: Placement>(
+        &mut self,
+        alloc: Global,
+        plan: &Plan,
+        map: &M,
+    ) -> Result<(), Memory>
+        requires { IsOf (M.count map.now) self.old.conductor }
+        ensures { (script : List Fault) → OnOk result (self.new ≡ told_by (setting plan.now script (M.place map.now) (M.count map.now)) self.old self.old.posts.desk) }
+    {
+        self.due = None;
+        hear_at_desk(
+            alloc,
+            plan,
+            map,
+            &mut self.conductor,
+            &mut self.slots,
+            &mut self.desk,
+        )?;
+        self.due = Some(is_due(&self.cut, &self.conductor));
+        Ok(())
+    }
+
+    fn conductor_moves<M: Placement>(
+        &mut self,
+        alloc: Global,
+        plan: &Plan,
+        map: &M,
+    ) -> Result<(), Memory>
+        requires place { length (M.place map.now) ≡ elements plan.now }
+        requires nodes { IsOf (M.count map.now) self.old.conductor }
+        requires renews { AllByRecursion (Renews plan.now self.old.cut) self.old.posts.slots }
+        ensures { (script : List Fault) → OnOk result (self.new ≡ conductor_moved (setting plan.now script (M.place map.now) (M.count map.now)) self.old (wanted self.old.conductor)) }
+    {
+        self.due = None;
+        move_conductor(
+            alloc,
+            plan,
+            map,
+            &mut self.cut,
+            &mut self.conductor,
+            &mut self.slots,
+            &mut self.desk,
+        )?;
+        self.due = Some(is_due(&self.cut, &self.conductor));
+        Ok(())
     }
 
     /// What the run leaves; None exactly where it hasn't ended. The world is given up then too. It takes no memory.

@@ -1,4 +1,4 @@
-use Rattle.std.proofs.Common.{◌≡◌}
+use Rattle.std.proofs.Common.{◌≡◌, []}
 use Rattle.fault_script.specs.Lines.{faults_of}
 use Rattle.world_core.specs.Sound.{Sound}
 use Rattle.world_core.specs.Steps.{setting}
@@ -11,6 +11,7 @@ invariant-loop-left g l =
     record {
       told : reached s l.world (picked s l.left l.chooser l.world) ≡ reached s l.fn.world (picked s l.fn.turns l.fn.chooser l.fn.world);
       sound : Sound s l.fn.options l.world;
+      empty : l.out ≡ [];
     }
 
 abbrev pub decreases-loop-left : goal.decreases-loop-left
