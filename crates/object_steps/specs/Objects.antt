@@ -1,5 +1,5 @@
 -- An element as it goes through its iterations.
-use Rattle.std.specs.Prelude.{◌≡◌, ℕ, zero, suc, ◌<◌, ◌≤◌, ◌==◌, ◌&&◌, ◌||◌, not, Bool, true, false, if◌then◌else◌, List, [], ◌∷◌, length, Option, Some, None, IfSome, is_some, slice_set}
+use Rattle.std.specs.Prelude.{◌≡◌, ℕ, zero, suc, ◌<◌, ◌≤◌, ◌==◌, ◌&&◌, ◌||◌, not, Bool, true, false, if◌then◌else◌, List, [], ◌∷◌, length, Option, Some, None, IfSome, is_some, slice_set, unwrap_or}
 use Rattle.std.specs.Option.{option_or}
 use Rattle.chare_base.specs.declared.cells.Cells.{Cells}
 use Rattle.chare_base.specs.declared.message.Need.{Need}
@@ -15,7 +15,7 @@ use Rattle.chare_base.specs.declared.plan.Place.{Place}
 use Rattle.chare_base.specs.declared.plan.Plan.{Plan}
 use Rattle.chare_base.specs.declared.plan.Spot.{Spot}
 use Rattle.chare_base.specs.Elements.{cells_of, elements, need_at, parts_at, place_of, steps_of}
-use Rattle.chare_base.specs.Entries.{source_of}
+use Rattle.chare_base.specs.Entries.{nothing, source_of}
 use Rattle.chare_base.specs.Ports.{port_needed}
 use Rattle.chare_eval.specs.Block.{Effect, block}
 use Rattle.chare_eval.specs.Inside.{is_done, none_done}
@@ -75,14 +75,27 @@ arrived_at p e iteration mail port = found_at p e port (message mail (key_of ite
 abbrev pub arrived : Plan → Progress → Inbox
 arrived p o = arrived_at p o.element.0 o.done o.mail
 
--- whether nobody stands where a message would come from
-abbrev pub is_edge : Source → Bool
-is_edge (sources.Element sender) = false
-is_edge (sources.Edge payload) = true
+-- what an edge gives where nobody stands who would send, and so at a port, and for what a part needs
+abbrev pub edge_of : Source → Option Payload
+edge_of (sources.Element sender) = None
+edge_of (sources.Edge payload) = Some payload
 
-abbrev pub is_at_edge : Plan → ℕ → Port → Bool
-is_at_edge p e (ports.Entry entry) = is_edge (source_of p entry.0 e)
-is_at_edge p e (ports.Total reduction) = false
+abbrev pub edge_at : Plan → ℕ → Port → Option Payload
+edge_at p e (ports.Entry entry) = edge_of (source_of p entry.0 e)
+edge_at p e (ports.Total reduction) = None
+
+abbrev pub edge_given : Plan → ℕ → Need → Option Payload
+edge_given p e needs.Nothing = None
+edge_given p e (needs.Port port) = edge_at p e port
+
+-- the message held of those that a part needs
+abbrev pub held_for : Need → ℕ → Queue → Option Payload
+held_for needs.Nothing iteration mail = None
+held_for (needs.Port port) iteration mail = message mail (key_of iteration port)
+
+-- what a part reads of an edge's payload and a message that is held
+abbrev pub read_from : Option Payload → Option Payload → Payload
+read_from edge held = unwrap_or (option_or edge held) nothing
 
 -- a part can run where it needs nothing or what it needs is there
 abbrev pub can_run : Inbox → Need → Bool

@@ -1,15 +1,17 @@
 //! An element's object.
 
 ghost use Rattle.std.specs.Prelude.{◌≡◌, ◌<◌, ◌≤◌, ◌++◌, ◌^◌, length, None, is_none, OnOk, OnErr, IfErr};
-ghost use Rattle.chare_base.specs.Elements.{cells_of, elements, parts_at, place_of, steps_of};
-ghost use Rattle.chare_eval.specs.Stage.{given};
+ghost use Rattle.chare_base.specs.Elements.{cells_of, cols_at, elements, parts_at, place_of, steps_of};
+ghost use Rattle.chare_eval.specs.Block.{quiet};
+ghost use Rattle.chare_eval.specs.Stage.{part_runs};
 ghost use Rattle.ref_messages.specs.Refusal.{Takes, Refuses};
 ghost use Rattle.chare_base.specs.declared.plan.Plan.{Plan};
 ghost use Rattle.object_steps.specs.declared.ready.Ready.TheVariants as ready_as;
 ghost use Rattle.object_steps.specs.Objects.{Fits, advanced, all_done, arrived_at, awaits, begun, gone_on, mailed, ran, ready, started, struck, taken};
 
-use crate::ready::{Ready, Standpoint, arrived, awaited, chosen, is_done};
+use crate::ready::{Ready, Standpoint, awaited, chosen, edge_given, given, is_done};
 use chare_base::cells::Cells;
+use chare_base::elements::StepPart;
 use chare_base::memory::Memory;
 use chare_base::message::{EntryId, Need, Payload};
 use chare_base::plan::{ElementId, Part, Place, Plan, Spot};
@@ -70,6 +72,13 @@ impl Object {
         ensures { result ≡ self.now.element }
     {
         self.element
+    }
+
+    /// Where the element stands in its array: a caller needn't look the array up by the plan.
+    pub fn place(&self) -> Place
+        ensures { result ≡ self.now.place }
+    {
+        self.place
     }
 
     /// The element's cells.
@@ -202,20 +211,7 @@ impl Object {
             iteration: self.done,
             mail: &self.mail,
         };
-        let payload = given(plan, at, need);
-        let block = found.part.block.as_slice();
-        run_part(
-            plan,
-            self.element,
-            self.place,
-            spot.step,
-            self.done,
-            found.cols,
-            block,
-            &payload,
-            &mut self.cells,
-            effects,
-        )?;
+        run(plan, at, spot.step, found, &mut self.cells, effects)?;
         take(&mut self.mail, self.done, need);
         self.parts[spot.part as usize] = true;
         self.go_on(found.steps, found.parts, spot.step);
@@ -269,16 +265,38 @@ fn all_done(parts: &[bool], count: u8) -> bool
     all
 }
 
-// The payload that comes with what a part needs, none where it needs nothing.
-fn given(plan: &Plan, at: Standpoint<'_>, need: Need) -> Payload
+// Runs a part on the element's cells, with what it needs. A message that is held is read where it lies.
+#[tactic(auto, using(crate::proofs::Finding::read_given))]
+fn run(
+    plan: &Plan,
+    at: Standpoint<'_>,
+    step: u8,
+    found: StepPart<'_>,
+    cells: &mut Cells,
+    effects: &mut Effects,
+) -> Result<(), Memory>
     requires element { at.element.0 < elements plan.now }
     requires place { at.place ≡ place_of plan.now at.element.0 }
-    ensures { result ≡ given need (arrived_at plan.now at.entry.element.0 at.entry.iteration at.entry.mail.now) }
+    requires cols { found.cols ≡ cols_at plan.now at.element.0 }
+    ensures cells { OnOk result (cells.new ≡ (part_runs plan.now at.entry.element.0 step at.entry.iteration (arrived_at plan.now at.entry.element.0 at.entry.iteration at.entry.mail.now) found.entry.part.now (quiet cells.old)).cells) }
+    ensures sent { OnOk result (effects.new ≡ effects.old ++ (part_runs plan.now at.entry.element.0 step at.entry.iteration (arrived_at plan.now at.entry.element.0 at.entry.iteration at.entry.mail.now) found.entry.part.now (quiet cells.old)).sent) }
+    ensures err { OnErr result ((cells.new ≡ cells.old) × (effects.new ≡ effects.old)) }
 {
-    match need {
-        Need::Nothing => Payload::NONE,
-        Need::Port(port) => arrived(plan, at, port).unwrap_or(Payload::NONE),
-    }
+    let edge = edge_given(plan, at, found.part.need);
+    let payload = given(at, found.part.need, &edge);
+    let block = found.part.block.as_slice();
+    run_part(
+        plan,
+        at.element,
+        at.place,
+        step,
+        at.iteration,
+        found.cols,
+        block,
+        payload,
+        cells,
+        effects,
+    )
 }
 
 // Takes out the message that was needed.

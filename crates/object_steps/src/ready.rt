@@ -2,12 +2,13 @@
 
 ghost use Rattle.std.specs.Prelude.{◌≡◌, ◌<◌, ◌≤◌, is_some, length, None};
 ghost use Rattle.chare_base.specs.Elements.{elements, place_of};
+ghost use Rattle.chare_base.specs.Entries.{source_of};
 ghost use Rattle.chare_base.specs.Ports.{port_needed};
 ghost use Rattle.chare_eval.specs.Inside.{is_done};
-ghost use Rattle.object_steps.specs.Objects.{arrived_at, awaited_from, can_run, is_at_edge, is_edge, key_of, needs_entry, ready_from};
+ghost use Rattle.object_steps.specs.Objects.{arrived_at, awaited_from, can_run, edge_at, edge_given, edge_of, held_for, key_of, needs_entry, read_from, ready_from};
 
 use chare_base::message::{EntryId, Need, Payload, Port, Source};
-use chare_base::plan::{ElementId, Part, Place, Plan, Spot};
+use chare_base::plan::{Edge, ElementId, Part, Place, Plan, Spot};
 use ref_messages::key::RefKey;
 use ref_messages::queue::RefQueue;
 
@@ -118,55 +119,72 @@ fn is_there(plan: &Plan, at: Standpoint<'_>, port: Port) -> bool
     if at.mail.has(key_of(at, port)) {
         return true;
     }
-    is_at_edge(plan, at, port)
+    edge_at(plan, at, port).is_some()
 }
 
-// Whether nobody stands where the message at a port would come from.
-#[tactic(auto, unfolding(chare_base::specs::Entries::source_of))]
-fn is_at_edge(plan: &Plan, at: Standpoint<'_>, port: Port) -> bool
+// What the edge gives where nobody stands who would send the message at a port.
+fn edge_at(plan: &Plan, at: Standpoint<'_>, port: Port) -> Option<Payload>
     requires element { at.element.0 < elements plan.now }
     requires place { at.place ≡ place_of plan.now at.element.0 }
-    ensures { result ≡ is_at_edge plan.now at.entry.element.0 port }
+    ensures { result ≡ edge_at plan.now at.entry.element.0 port }
 {
     match port {
-        Port::Entry(entry) => {
-            if entry.0 as usize >= plan.entries.len() {
-                return true;
-            }
-            is_edge(plan.source_at(entry, at.element, at.place.index))
-        }
-        Port::Total(_) => false,
+        Port::Entry(entry) => edge_behind(plan, at, entry),
+        Port::Total(_) => None,
     }
 }
 
-fn is_edge(source: Source) -> bool
-    ensures { result ≡ is_edge source }
+// The same at an entry. Where opposite edges meet somebody always stands there, so no neighbour is worked out.
+#[tactic(auto, unfolding(chare_base::specs::Entries::source_of), using(crate::proofs::Finding::wraps_around))]
+fn edge_behind(plan: &Plan, at: Standpoint<'_>, entry: EntryId) -> Option<Payload>
+    requires element { at.element.0 < elements plan.now }
+    requires place { at.place ≡ place_of plan.now at.element.0 }
+    ensures { result ≡ edge_of (source_of plan.now entry.0 at.entry.element.0) }
+{
+    if entry.0 as usize >= plan.entries.len() {
+        return Some(Payload::NONE);
+    }
+    match plan.entry(entry).edge {
+        Edge::Wrap => None,
+        Edge::Else(_) => edge_of(plan.source_at(entry, at.element, at.place.index)),
+    }
+}
+
+fn edge_of(source: Source) -> Option<Payload>
+    ensures { result ≡ edge_of source }
 {
     match source {
-        Source::Element(_) => false,
-        Source::Edge(_) => true,
+        Source::Element(_) => None,
+        Source::Edge(payload) => Some(payload),
     }
 }
 
-// What the element finds at a port in the iteration. At an edge it finds the edge's payload.
-#[tactic(auto, unfolding(chare_base::specs::Entries::source_of))]
-pub(crate) fn arrived(plan: &Plan, at: Standpoint<'_>, port: Port) -> Option<Payload>
+// The same for what a part needs.
+pub(crate) fn edge_given(plan: &Plan, at: Standpoint<'_>, need: Need) -> Option<Payload>
     requires element { at.element.0 < elements plan.now }
     requires place { at.place ≡ place_of plan.now at.element.0 }
-    ensures { result ≡ arrived_at plan.now at.entry.element.0 at.entry.iteration at.entry.mail.now port }
+    ensures { result ≡ edge_given plan.now at.entry.element.0 need }
 {
-    let key = key_of(at, port);
-    match port {
-        Port::Entry(entry) => {
-            if entry.0 as usize >= plan.entries.len() {
-                return Some(Payload::NONE);
-            }
-            match plan.source_at(entry, at.element, at.place.index) {
-                Source::Element(_) => at.mail.get(key),
-                Source::Edge(payload) => Some(payload),
-            }
-        }
-        Port::Total(_) => at.mail.get(key),
+    match need {
+        Need::Nothing => None,
+        Need::Port(port) => edge_at(plan, at, port),
+    }
+}
+
+// The payload that comes with what a part needs, where it lies: the edge's, if there is one, else that of the message
+// that is held. Where nothing is needed or there, it is an empty one.
+pub(crate) fn given<'a>(at: Standpoint<'a>, need: Need, edge: &'a Option<Payload>) -> &'a Payload
+    ensures { result.now ≡ read_from edge.now (held_for need at.entry.iteration at.entry.mail.now) }
+{
+    if let Some(payload) = edge {
+        return payload;
+    }
+    match need {
+        Need::Nothing => &Payload::NONE,
+        Need::Port(port) => match at.mail.get(key_of(at, port)) {
+            Some(payload) => payload,
+            None => &Payload::NONE,
+        },
     }
 }
 
