@@ -1,4 +1,6 @@
 pub mod Lists
+pub mod Firsts
+pub mod Works
 pub mod Opening
 pub mod Renewing
 pub mod Picks

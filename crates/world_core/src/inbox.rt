@@ -1,6 +1,6 @@
 //! An inbox: letters in the order in which they came.
 
-ghost use Rattle.std.specs.Prelude.{◌≡◌, ◌++◌, ◌∷◌, ◌×◌, [], drop, MatchOption, OnOk, OnErr};
+ghost use Rattle.std.specs.Prelude.{◌≡◌, ◌++◌, ◌∷◌, [], drop, MatchOption, OnOk, OnErr};
 ghost use Rattle.world_core.specs.Steps.{has_letter};
 
 use chare_base::memory::Memory;
@@ -53,7 +53,6 @@ impl Inbox {
     }
 
     /// The first letter, which stays; None exactly where there is none.
-    #[tactic(auto, using(crate::proofs::Firsts::first_is))]
     pub fn first(&self) -> Option<&Letter>
         ensures { MatchOption result (self.now ≡ []) (λ letter. self.now ≡ letter.now ∷ drop 1 self.now) }
     {

@@ -1,6 +1,6 @@
 //! A slot with its inbox.
 
-ghost use Rattle.std.specs.Prelude.{◌≡◌, ◌==◌, ◌&&◌, ◌∷◌, ◌×◌, [], List, length, true, false, Ok, OnOk, IfOk, Some, None};
+ghost use Rattle.std.specs.Prelude.{◌≡◌, ◌==◌, ◌&&◌, ◌∷◌, [], List, length, true, false, Ok, OnOk, IfOk, Some, None};
 ghost use Rattle.chare_base.specs.Elements.{elements};
 ghost use Rattle.fault_script.specs.Lines.{faults_of};
 ghost use Rattle.iteration_agree.specs.Cuts.{HasSlot, packed_by, slot_of};

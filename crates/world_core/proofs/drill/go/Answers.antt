@@ -16,7 +16,7 @@ pub loop-left-preserved : goal.loop-left-preserved
 loop-left-preserved g c =
     let s : Setting = setting c.args.plan.now (faults_of c.args.script.now) (g.M.Placement.place c.args.map.now) (g.M.Placement.count c.args.map.now) in
     let w : WorldState = c.loop-left.world in
-    let next : c.happen.new.self ≡ happens s w c.in-Some.event = c.in_ok-happen.ensures in
+    let next : c.happen.new.self ≡ happens s w c.in-Some.event = c.in_ok-happen.ensures.happens in
     record {
       told =
           ap (λ r. reached s c.happen.new.self (picked s (c.loop-left.left - 1) r c.happen.new.self)) c.goes_on-chooser.ensures
@@ -26,6 +26,7 @@ loop-left-preserved g c =
       sound =
           let P : WorldState → Type 0 = λ v. Sound s c.args.options.now v in
           subst P (sym next) (c.worlds_are_sound.ensures.event s c.args.options.now w c.in-Some.event (record { count = c.requires.place; covers = c.nodes.ensures.covers }) (for_options s c.args.options.now c.requires.nodes c.requires.bounded) c.loop-left.invariant.sound);
+      empty = c.in_ok-happen.ensures.empty;
     }
 
 pub next_event-requires : goal.next_event-requires

@@ -1,10 +1,12 @@
-use Rattle.std.proofs.Common.{◌∙◌, ap, sym, subst}
+use Rattle.std.proofs.Common.{◌∙◌, ◌∷◌, [], List, Ok, refl, ap, sym, subst, drop}
 use Rattle.fault_script.specs.Lines.{faults_of}
-use Rattle.node_core.specs.Nodes.{Outcome}
+use Rattle.letter_post.specs.declared.letter.Letter.{Letter}
+use Rattle.letter_post.specs.declared.letter.Sent.{Sent}
+use Rattle.node_core.specs.Nodes.{NodeState, Outcome}
+use Rattle.world_core.specs.declared.doing.Readiness.{Readiness}
 use Rattle.world_core.specs.Sound.{Served}
-use Rattle.letter_post.specs.declared.stamp.Stamp.{Stamp}
-use Rattle.world_core.specs.Steps.{reach_of, setting}
-use Rattle.world_core.specs.Worlds.{Setting, SlotState, slot_heard, stand}
+use Rattle.world_core.specs.Steps.{ParcelHeard, reach_of, setting}
+use Rattle.world_core.specs.Worlds.{Acted, Setting, SlotState, slot_heard, stand}
 use Rattle.world_core.proofs.Slots.{heard_after}
 use Rattle.world_core.proofs.SlotsActed.{heard_seats, heard_slot}
 use Rattle.world_core.proofs.slot.Slot.hear.Goals as goal
@@ -14,18 +16,30 @@ tell-requires-clause-seats g c =
     let s : Setting = setting c.args.plan.now (faults_of c.args.script.now) (g.M.Placement.place c.args.map.now) (g.M.Placement.count c.args.map.now) in
     let inside : SlotState = record { node = c.self.inside.node; box = c.self.inside.inbox; back = c.self.inside.back; since = c.self.inside.since; seats = c.self.inside.seats; doing = c.self.inside.doing } in
     let served : Served s c.args.cut.now inside = subst (Served s c.args.cut.now) (sym c.self.view_is) c.requires.served in
-    let at = c.standing-standing.ensures ∙ ap (stand c.args.cut.now) c.slot.ensures in
-    heard_seats s c.args.cut.now inside c.in-Some.letter c.standing-standing.result c.hear.new.self c.in_ok-out-in-Some.out c.reach_of-reach.result c.mark_by.new.seats served.fresh.renews.fits at served.fresh.seats c.in_ok-out-in-Some.ensures.ok (c.reach_of-reach.ensures ∙ ap (λ (t : Stamp). reach_of t c.in-Some.letter) c.stamp.ensures) c.in_ok-mark_by-in-Some.ensures
+    let h : ParcelHeard s inside.box inside.node inside.seats c.hear_parcel.new.node c.hear_parcel.new.seats = c.hear_parcel.ensures.heard (c.in_ok-hear_parcel.was ∙ ap Ok c.if-branch.true) in
+    let own = (heard_after c.nodes_keep.ensures.fits c.nodes_keep.ensures.hears s c.args.cut.now inside h.letter (drop 1 inside.box) c.hear_parcel.new.node served h.first (ap (λ (o : Outcome). o.node) h.heard)).slot in
+    let at = c.standing-standing.ensures ∙ ap (stand c.args.cut.now) (c.slot.ensures ∙ own) in
+    heard_seats s c.args.cut.now inside h.letter c.standing-standing.result c.hear_parcel.new.node [] (reach_of inside.node.last.stamp h.letter) c.hear_parcel.new.seats served.fresh.renews.fits at served.fresh.seats h.heard refl
+    (h.marked c.standing-standing.result.top)
 
-pub returns-in_ok-mark_by-in-Some : goal.returns-in_ok-mark_by-in-Some
-returns-in_ok-mark_by-in-Some g c =
+pub returns-then-branch : goal.returns-then-branch
+returns-then-branch g c =
     let s : Setting = setting c.args.plan.now (faults_of c.args.script.now) (g.M.Placement.place c.args.map.now) (g.M.Placement.count c.args.map.now) in
     let inside : SlotState = record { node = c.self.inside.node; box = c.self.inside.inbox; back = c.self.inside.back; since = c.self.inside.since; seats = c.self.inside.seats; doing = c.self.inside.doing } in
     let served : Served s c.args.cut.now inside = subst (Served s c.args.cut.now) (sym c.self.view_is) c.requires.served in
-    let at = c.standing-standing.ensures ∙ ap (stand c.args.cut.now) c.slot.ensures in
-    let after = ap (λ (o : Outcome). o.node) c.in_ok-out-in-Some.ensures.ok in
-    let own = (heard_after c.nodes_keep.ensures.fits c.nodes_keep.ensures.hears s c.args.cut.now inside c.in-Some.letter c.take.new.self c.hear.new.self served c.in-Some.ensures after).slot in
-    heard_slot s c.args.cut.now inside c.in-Some.letter c.standing-standing.result c.hear.new.self c.in_ok-out-in-Some.out c.reach_of-reach.result c.mark_by.new.seats served.fresh.renews.fits c.round.result c.take.new.self
-    c.back_after-self-inside.result c.since_after-self-inside.result c.tell.new.self c.in-Some.ensures c.back_after-self-inside.ensures c.since_after-self-inside.ensures
-    c.round.ensures.exact at served.fresh.seats c.in_ok-out-in-Some.ensures.ok (c.reach_of-reach.ensures ∙ ap (λ (t : Stamp). reach_of t c.in-Some.letter) c.stamp.ensures) c.in_ok-mark_by-in-Some.ensures own c.tell.ensures
+    let h : ParcelHeard s inside.box inside.node inside.seats c.hear_parcel.new.node c.hear_parcel.new.seats = c.hear_parcel.ensures.heard (c.in_ok-hear_parcel.was ∙ ap Ok c.if-branch.true) in
+    let own = (heard_after c.nodes_keep.ensures.fits c.nodes_keep.ensures.hears s c.args.cut.now inside h.letter (drop 1 inside.box) c.hear_parcel.new.node served h.first (ap (λ (o : Outcome). o.node) h.heard)).slot in
+    let at = c.standing-standing.ensures ∙ ap (stand c.args.cut.now) (c.slot.ensures ∙ own) in
+    let with_out : List Sent → Acted = λ o. record { slot = c.tell.new.self; cut = c.args.cut.now; out = o } in
+    ap with_out c.requires.empty
+    ∙ heard_slot s c.args.cut.now inside h.letter c.standing-standing.result c.hear_parcel.new.node [] (reach_of inside.node.last.stamp h.letter) c.hear_parcel.new.seats served.fresh.renews.fits c.round.result c.forget_first.new.self
+    inside.back inside.since c.tell.new.self (h.first ∙ ap (λ (b : List Letter). h.letter ∷ b) (sym c.forget_first.ensures)) (sym (h.back inside.back)) (sym (h.since inside.since))
+    c.round.ensures.exact at served.fresh.seats h.heard refl (h.marked c.standing-standing.result.top) own c.tell.ensures
     ∙ ap (λ (y : SlotState). slot_heard s c.args.cut.now y y.box) c.self.view_is
+
+pub hear_letter-requires-clause-served : goal.hear_letter-requires-clause-served
+hear_letter-requires-clause-served g c =
+    let s : Setting = setting c.args.plan.now (faults_of c.args.script.now) (g.M.Placement.place c.args.map.now) (g.M.Placement.count c.args.map.now) in
+    let with_parts : NodeState → List Readiness → SlotState = λ n seats. record { node = n; box = c.self.inside.inbox; back = c.self.inside.back; since = c.self.inside.since; seats = seats; doing = c.self.inside.doing } in
+    let stays = c.hear_parcel.ensures.stays (c.in_ok-hear_parcel.was ∙ ap Ok c.if-branch.false) in
+    subst (Served s c.args.cut.now) (sym c.self.view_is ∙ sym (ap (with_parts c.hear_parcel.new.node) stays.1 ∙ ap (λ (n : NodeState). with_parts n c.self.inside.seats) stays.0)) c.requires.served
