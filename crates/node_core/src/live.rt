@@ -6,6 +6,7 @@ ghost use Rattle.chare_base.specs.declared.plan.Plan.{Plan};
 ghost use Rattle.chare_base.specs.Elements.{elements};
 ghost use Rattle.chare_base.specs.Entries.{reduction_of};
 ghost use Rattle.chare_eval.specs.Stage.{one_value};
+ghost use Rattle.fault_script.specs.declared.fault.Fault.{Fault};
 ghost use Rattle.fault_script.specs.Lines.{faults_of, flips_in};
 ghost use Rattle.letter_post.specs.declared.letter.Sent.{Sent};
 ghost use Rattle.letter_post.specs.Stamps.{lines_of, same_stamp};
@@ -252,21 +253,17 @@ struct Share {
 
 impl Live {
     // A letter comes.
-    pub(crate) fn hear<M: Placement>(
+    pub(crate) fn hear(
         &mut self,
         alloc: Global,
         plan: &Plan,
-        script: &Script,
-        map: &M,
         slot: SlotId,
         stamp: Stamp,
         roster: &Seats,
         letter: Letter,
     ) -> Result<Outbox, Memory>
-        ensures { IfOk result (λ out. record { body = self.new; out = out } ≡ body_heard plan.now (faults_of script.now) (M.place map.now) slot stamp roster.now self.old letter) }
+        ensures { (script : List Fault) (place : List ℕ) → IfOk result (λ out. record { body = self.new; out = out } ≡ body_heard plan.now script place slot stamp roster.now self.old letter) }
     {
-        let _ = script;
-        let _ = map;
         match letter {
             Letter::Parcel {
                 stamp: sent_under,
@@ -285,35 +282,24 @@ impl Live {
                 node,
                 value,
             } => {
+                let own = theirs.is_same(stamp);
                 let share = Share {
                     reduction,
                     iteration,
                     node,
                     value,
                 };
-                self.hear_share(
-                    alloc,
-                    plan,
-                    theirs.is_same(stamp),
-                    slot.replica,
-                    stamp,
-                    roster,
-                    share,
-                )
+                self.hear_share(alloc, plan, own, slot.replica, stamp, roster, share)
             }
             Letter::Total {
                 stamp: theirs,
                 reduction,
                 iteration,
                 value,
-            } => self.hear_total(
-                alloc,
-                plan,
-                theirs.is_same(stamp),
-                iteration,
-                reduction,
-                value,
-            ),
+            } => {
+                let own = theirs.is_same(stamp);
+                self.hear_total(alloc, plan, own, iteration, reduction, value)
+            }
             Letter::Piece {
                 stamp: theirs,
                 piece,

@@ -159,7 +159,6 @@ impl Node {
     /// said of that element alone. A node that rests runs nothing, and answers `Awaits`.
     ///
     /// `Memory`: an allocation was refused; the node is over.
-    #[tactic(auto, unfolding(crate::specs::Nodes::node_ran))]
     pub fn run_element<M: Placement>(
         &mut self,
         alloc: Global,
@@ -280,18 +279,11 @@ impl Node {
         if self.over {
             return Err(Memory);
         }
+        let _ = script;
         let last = self.last.after(&letter);
-        match hear_body(
-            alloc,
-            plan,
-            script,
-            map,
-            self.slot,
-            self.last,
-            &self.roster,
-            letter,
-            &mut self.body,
-        ) {
+        let roster = &self.roster;
+        let body = &mut self.body;
+        match hear_body(alloc, plan, map, self.slot, self.last, roster, letter, body) {
             Ok(out) => {
                 self.last = last;
                 Ok(out)
@@ -504,7 +496,6 @@ fn turn_with(kind: TurnKind, outbox: Outbox) -> Turn
 fn hear_body<M: Placement>(
     alloc: Global,
     plan: &Plan,
-    script: &Script,
     map: &M,
     slot: SlotId,
     last: LastOrder,
@@ -513,10 +504,10 @@ fn hear_body<M: Placement>(
     body: &mut Option<Live>,
 ) -> Result<Outbox, Memory>
     requires { length (M.place map.now) ≡ elements plan.now }
-    ensures { (over : Bool) → IfOk result (λ out. record { node = node_from slot (next_order last letter) roster.now over body.new; out = out } ≡ node_heard_as plan.now (faults_of script.now) (M.place map.now) letter (node_from slot last roster.now over body.old) (order_of letter)) }
+    ensures { (script : List Fault) (over : Bool) → IfOk result (λ out. record { node = node_from slot (next_order last letter) roster.now over body.new; out = out } ≡ node_heard_as plan.now script (M.place map.now) letter (node_from slot last roster.now over body.old) (order_of letter)) }
 {
     if letter.is_mail() {
-        let out = hear_mail(alloc, plan, script, map, slot, last, roster, letter, body)?;
+        let out = hear_mail(alloc, plan, slot, last, roster, letter, body)?;
         Ok(out)
     } else {
         let out = obey(alloc, plan, map, slot, last.stamp, letter, body)?;
@@ -524,23 +515,21 @@ fn hear_body<M: Placement>(
     }
 }
 
-fn hear_mail<M: Placement>(
+fn hear_mail(
     alloc: Global,
     plan: &Plan,
-    script: &Script,
-    map: &M,
     slot: SlotId,
     last: LastOrder,
     roster: &Seats,
     letter: Letter,
     body: &mut Option<Live>,
 ) -> Result<Outbox, Memory>
-    ensures { (over : Bool) → IfOk result (λ out. record { node = node_from slot last roster.now over body.new; out = out } ≡ node_heard_by plan.now (faults_of script.now) (M.place map.now) letter (node_from slot last roster.now over body.old) body.old) }
+    ensures { (script : List Fault) (place : List ℕ) (over : Bool) → IfOk result (λ out. record { node = node_from slot last roster.now over body.new; out = out } ≡ node_heard_by plan.now script place letter (node_from slot last roster.now over body.old) body.old) }
 {
     match body {
         None => Ok(Outbox::new(alloc)),
         Some(live) => {
-            let out = live.hear(alloc, plan, script, map, slot, last.stamp, roster, letter)?;
+            let out = live.hear(alloc, plan, slot, last.stamp, roster, letter)?;
             Ok(out)
         }
     }
