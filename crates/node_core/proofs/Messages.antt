@@ -1,14 +1,12 @@
 -- What is found under each key after a message more and a message less.
-use Rattle.std.proofs.Common.{◌≡◌, ℕ, Bool, true, false, cond, List, [], ◌∷◌, Option, Some, refl, ap, sym, ◌∙◌, Ordering, Less, Equal, Greater}
-use Rattle.std.specs.BTreeMap.{insert_entry}
+use Rattle.std.proofs.Common.{◌≡◌, ℕ, Bool, true, false, cond, List, [], ◌∷◌, Some, refl, ap, sym, ◌∙◌}
 use Rattle.std.specs.Map.{lookup, remove_entry}
-use Rattle.std.specs.Ordering.{is_eq, match_ordering}
 use Rattle.chare_base.specs.declared.message.Need.{Need}
 use Rattle.chare_base.specs.declared.message.Need.TheVariants as needs
 use Rattle.chare_base.specs.declared.message.Payload.{Payload}
 use Rattle.chare_base.specs.declared.message.Port.{Port}
 use Rattle.ref_messages.specs.declared.key.RefKey.{RefKey}
-use Rattle.ref_messages.specs.Queue.{Queue, key_order, message, put, same_key}
+use Rattle.ref_messages.specs.Queue.{Queue, message, put, same_key}
 use Rattle.ref_messages.proofs.Found.{found_insert, one_of, other_is, same_is}
 use Rattle.object_steps.specs.Objects.{key_of, taken}
 

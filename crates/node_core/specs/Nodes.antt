@@ -38,6 +38,8 @@ use Rattle.node_core.specs.declared.piece.Loan.{Loan}
 use Rattle.node_core.specs.declared.turn.Sender.{Sender}
 use Rattle.node_core.specs.declared.turn.Turn.{Turn}
 use Rattle.node_core.specs.declared.turn.Turn.TheVariants as turns
+use Rattle.node_core.specs.declared.turn.TurnKind.{TurnKind}
+use Rattle.node_core.specs.declared.turn.TurnKind.TheVariants as kinds
 use Rattle.node_core.specs.Gatherings.{Gathering, Tallied, tallied}
 use Rattle.node_core.specs.Loads.{loaded}
 use Rattle.node_core.specs.Rosters.{Roster, count_of, number_in, rank_of, seat_of, sharers_of}
@@ -160,6 +162,13 @@ idle_of before = if before then turns.Held else turns.Awaits
 abbrev pub turn_of : ElementId → Bool → Option Spot → List Sent → Turn
 turn_of e before None out = idle_of before
 turn_of e before (Some spot) out = turns.Ran e spot out
+
+-- a turn of this kind; letters go out only where a part ran
+abbrev pub turn_with : TurnKind → List Sent → Turn
+turn_with (kinds.Ran e spot) out = turns.Ran e spot out
+turn_with kinds.Held out = turns.Held
+turn_with kinds.Awaits out = turns.Awaits
+turn_with (kinds.Dies line) out = turns.Dies line
 
 -- a live node after a turn
 pub record Ran : Type 0 where

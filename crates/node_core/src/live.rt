@@ -1,14 +1,17 @@
 //! A live node: its elements' objects, what it gathers, and its pieces.
 
-ghost use Rattle.std.specs.Prelude.{◌≡◌, ℕ, ◌<◌, ◌≤◌, if◌then◌else◌, List, None, length, map, slice_get, IfOk, OnOk};
+ghost use Rattle.std.specs.Prelude.{◌≡◌, ℕ, ◌<◌, ◌≤◌, if◌then◌else◌, List, [], None, length, map, slice_get, IfOk, OnOk};
 ghost use Rattle.std.specs.List.{AllByRecursion};
+ghost use Rattle.chare_base.specs.declared.plan.Plan.{Plan};
 ghost use Rattle.chare_base.specs.Elements.{elements};
 ghost use Rattle.chare_base.specs.Entries.{reduction_of};
 ghost use Rattle.chare_eval.specs.Stage.{one_value};
+ghost use Rattle.fault_script.specs.declared.fault.Fault.{Fault};
 ghost use Rattle.fault_script.specs.Lines.{faults_of, flips_in};
-ghost use Rattle.letter_post.specs.Stamps.{lines_of};
+ghost use Rattle.letter_post.specs.declared.letter.Sent.{Sent};
+ghost use Rattle.letter_post.specs.Stamps.{lines_of, same_stamp};
 ghost use Rattle.object_steps.specs.Objects.{Fits};
-ghost use Rattle.node_core.specs.Nodes.{Body, all_at_of, body_heard, body_packed, body_ran, body_ran_at, body_ran_by, body_turned, first_running_of, idle_of, lesser, next_begin_of, parcel_heard, partial_heard, piece_heard, piece_of, share_heard, taken_at, taken_by, taken_in, total_heard, turn_of, unmoved, with_objects, with_totals};
+ghost use Rattle.node_core.specs.Nodes.{Body, all_at_of, body_heard, body_packed, body_ran, body_ran_at, body_ran_by, body_turned, first_running_of, idle_of, lesser, next_begin_of, out_of, parcel_heard, partial_heard, piece_heard, piece_of, sender_of, share_heard, taken_at, taken_by, taken_in, total_heard, turn_with, unmoved, with_objects, with_totals};
 ghost use Rattle.node_core.specs.Rosters.{number_in};
 ghost use Rattle.node_core.specs.Turns.{turned};
 
@@ -17,11 +20,11 @@ use crate::passing::{pass_all, send_totals};
 use crate::piece::{Held, Loan, is_new, pack_objects, send_compared, send_packed};
 use crate::roster::{Seats, number_in};
 use crate::tallies::{Tally, count_in};
-use crate::turn::{Sender, Turn};
+use crate::turn::{Sender, TurnKind};
 use chare_base::memory::Memory;
 use chare_base::message::{EntryId, Payload, Port, ReductionId};
 use chare_base::placement::Placement;
-use chare_base::plan::{ElementId, Plan, Reduction, Spot};
+use chare_base::plan::{ElementId, Plan, Reduction};
 use chare_base::slots::{LineSet, SlotId};
 use chare_eval::effects::Effects;
 use fault_script::script::Script;
@@ -57,7 +60,7 @@ impl Model for Live {
 }
 
 impl Live {
-    // A turn of an element.
+    // A turn of an element. What it sends is put into an outbox that is empty before.
     #[tactic(auto, unfolding(crate::specs::Nodes::body_ran))]
     pub(crate) fn run<M: Placement>(
         &mut self,
@@ -71,30 +74,25 @@ impl Live {
         e: ElementId,
         limit: u64,
         effects: &mut Effects,
-    ) -> Result<Turn, Memory>
+        out: &mut Outbox,
+    ) -> Result<TurnKind, Memory>
         requires fits { AllByRecursion (Fits plan.now) self.old.objects }
         requires place { length (M.place map.now) ≡ elements plan.now }
-        ensures { IfOk result (λ turn. record { body = self.new; turn = turn } ≡ body_ran plan.now (lines_of (faults_of script.now) stamp) (M.place map.now) limit e.0 slot stamp roster.now self.old) }
+        requires empty { out.old ≡ [] }
+        ensures told { IfOk result (λ kind. record { body = self.new; turn = turn_with kind out.new } ≡ body_ran plan.now (lines_of (faults_of script.now) stamp) (M.place map.now) limit e.0 slot stamp roster.now self.old) }
+        ensures sent { IfOk result (λ kind. out.new ≡ out_of (turn_with kind out.new)) }
     {
         if self.waits {
-            return Ok(Turn::Awaits);
+            return Ok(TurnKind::Awaits);
         }
         let seat = roster.seat(e);
-        let turn = run_at(
-            alloc,
-            plan,
-            script,
-            map,
-            slot,
-            stamp,
-            roster,
-            seat,
-            limit,
-            &mut self.objects,
-            &mut self.gatherings,
-            effects,
+        let objects = &mut self.objects;
+        let gatherings = &mut self.gatherings;
+        let kind = run_at(
+            alloc, plan, script, map, slot, stamp, roster, seat, limit, objects, gatherings,
+            effects, out,
         )?;
-        Ok(turn)
+        Ok(kind)
     }
 }
 
@@ -112,21 +110,24 @@ fn run_at<M: Placement>(
     objects: &mut Vec<Object>,
     gatherings: &mut Vec<Tally>,
     effects: &mut Effects,
-) -> Result<Turn, Memory>
+    out: &mut Outbox,
+) -> Result<TurnKind, Memory>
     requires fits { AllByRecursion (Fits plan.now) objects.old.items }
     requires place { length (M.place map.now) ≡ elements plan.now }
-    ensures { (b : Body) → IfOk result (λ turn. record { body = with_objects b objects.new.items gatherings.new.items; turn = turn } ≡ body_ran_at plan.now (lines_of (faults_of script.now) stamp) (M.place map.now) limit slot stamp roster.now (with_objects b objects.old.items gatherings.old.items) seat) }
+    requires empty { out.old ≡ [] }
+    ensures told { (b : Body) → IfOk result (λ kind. record { body = with_objects b objects.new.items gatherings.new.items; turn = turn_with kind out.new } ≡ body_ran_at plan.now (lines_of (faults_of script.now) stamp) (M.place map.now) limit slot stamp roster.now (with_objects b objects.old.items gatherings.old.items) seat) }
+    ensures sent { IfOk result (λ kind. out.new ≡ out_of (turn_with kind out.new)) }
 {
     match seat {
-        None => Ok(Turn::Awaits),
+        None => Ok(TurnKind::Awaits),
         Some(i) => {
             if (i as usize) < objects.len() {
                 run_object(
                     alloc, plan, script, map, slot, stamp, roster, i, limit, objects, gatherings,
-                    effects,
+                    effects, out,
                 )
             } else {
-                Ok(Turn::Awaits)
+                Ok(TurnKind::Awaits)
             }
         }
     }
@@ -145,57 +146,53 @@ fn run_object<M: Placement>(
     objects: &mut Vec<Object>,
     gatherings: &mut Vec<Tally>,
     effects: &mut Effects,
-) -> Result<Turn, Memory>
+    out: &mut Outbox,
+) -> Result<TurnKind, Memory>
     requires there { i < length objects.old.items }
     requires fits { AllByRecursion (Fits plan.now) objects.old.items }
     requires place { length (M.place map.now) ≡ elements plan.now }
-    ensures { (b : Body) → IfOk result (λ turn. record { body = with_objects b objects.new.items gatherings.new.items; turn = turn } ≡ body_ran_by plan.now (lines_of (faults_of script.now) stamp) (M.place map.now) limit slot stamp roster.now (with_objects b objects.old.items gatherings.old.items) i (slice_get objects.old.items i)) }
+    requires empty { out.old ≡ [] }
+    ensures told { (b : Body) → IfOk result (λ kind. record { body = with_objects b objects.new.items gatherings.new.items; turn = turn_with kind out.new } ≡ body_ran_by plan.now (lines_of (faults_of script.now) stamp) (M.place map.now) limit slot stamp roster.now (with_objects b objects.old.items gatherings.old.items) i (slice_get objects.old.items i)) }
+    ensures sent { IfOk result (λ kind. out.new ≡ out_of (turn_with kind out.new)) }
 {
     effects.clear();
     let object = &mut objects[i as usize];
     let element = object.element();
     let before = begins(plan.iterations(), object);
-    let sender = Sender {
+    let sender = sender_of(slot, stamp, roster, i, object);
+    let spot = turn(alloc, plan, script, stamp.lines, limit, object, effects)?;
+    match spot {
+        None => Ok(idle(before)),
+        Some(spot) => {
+            let sent = effects.as_slice();
+            pass_all(alloc, plan, map, roster, sender, sent, gatherings, out)?;
+            Ok(TurnKind::Ran { element, spot })
+        }
+    }
+}
+
+// The element of the object of a number, as it sends.
+fn sender_of(slot: SlotId, stamp: Stamp, roster: &Seats, i: u32, object: &Object) -> Sender
+    ensures { (p : Plan) → Fits p object.now → result ≡ sender_of p slot stamp roster.now i object.now }
+{
+    Sender {
         slot,
         stamp,
         iteration: object.done(),
-        array: plan.place(element).array,
+        array: object.place().array,
         rank: roster.rank(i),
-    };
-    let spot = turn(alloc, plan, script, stamp.lines, limit, object, effects)?;
-    let mut out = Outbox::new(alloc);
-    pass_all(
-        alloc,
-        plan,
-        map,
-        roster,
-        sender,
-        effects.as_slice(),
-        gatherings,
-        &mut out,
-    )?;
-    Ok(turn_of(element, before, spot, out))
-}
-
-// What a turn was.
-fn turn_of(element: ElementId, before: bool, spot: Option<Spot>, outbox: Outbox) -> Turn
-    ensures { result ≡ turn_of element before spot outbox }
-{
-    match spot {
-        Some(spot) => Turn::Ran {
-            element,
-            spot,
-            outbox,
-        },
-        None => idle(before),
     }
 }
 
 // Why no part ran.
-pub(crate) fn idle(before: bool) -> Turn
-    ensures { result ≡ idle_of before }
+pub(crate) fn idle(before: bool) -> TurnKind
+    ensures { (out : List Sent) → turn_with result out ≡ idle_of before }
 {
-    if before { Turn::Held } else { Turn::Awaits }
+    if before {
+        TurnKind::Held
+    } else {
+        TurnKind::Awaits
+    }
 }
 
 // ---- who can run
@@ -256,21 +253,17 @@ struct Share {
 
 impl Live {
     // A letter comes.
-    pub(crate) fn hear<M: Placement>(
+    pub(crate) fn hear(
         &mut self,
         alloc: Global,
         plan: &Plan,
-        script: &Script,
-        map: &M,
         slot: SlotId,
         stamp: Stamp,
         roster: &Seats,
         letter: Letter,
     ) -> Result<Outbox, Memory>
-        ensures { IfOk result (λ out. record { body = self.new; out = out } ≡ body_heard plan.now (faults_of script.now) (M.place map.now) slot stamp roster.now self.old letter) }
+        ensures { (script : List Fault) (place : List ℕ) → IfOk result (λ out. record { body = self.new; out = out } ≡ body_heard plan.now script place slot stamp roster.now self.old letter) }
     {
-        let _ = script;
-        let _ = map;
         match letter {
             Letter::Parcel {
                 stamp: sent_under,
@@ -278,15 +271,10 @@ impl Live {
                 iteration,
                 to,
                 payload,
-            } => self.hear_parcel(
-                alloc,
-                sent_under.is_same(stamp),
-                roster,
-                iteration,
-                entry,
-                to,
-                payload,
-            ),
+            } => {
+                self.hear_parcel(stamp, roster, sent_under, entry, iteration, to, &payload)?;
+                Ok(Outbox::new(alloc))
+            }
             Letter::Partial {
                 stamp: theirs,
                 reduction,
@@ -294,35 +282,24 @@ impl Live {
                 node,
                 value,
             } => {
+                let own = theirs.is_same(stamp);
                 let share = Share {
                     reduction,
                     iteration,
                     node,
                     value,
                 };
-                self.hear_share(
-                    alloc,
-                    plan,
-                    theirs.is_same(stamp),
-                    slot.replica,
-                    stamp,
-                    roster,
-                    share,
-                )
+                self.hear_share(alloc, plan, own, slot.replica, stamp, roster, share)
             }
             Letter::Total {
                 stamp: theirs,
                 reduction,
                 iteration,
                 value,
-            } => self.hear_total(
-                alloc,
-                plan,
-                theirs.is_same(stamp),
-                iteration,
-                reduction,
-                value,
-            ),
+            } => {
+                let own = theirs.is_same(stamp);
+                self.hear_total(alloc, plan, own, iteration, reduction, value)
+            }
             Letter::Piece {
                 stamp: theirs,
                 piece,
@@ -338,25 +315,25 @@ impl Live {
         }
     }
 
-    // A message for an element, under the node's own stamp or not.
-    fn hear_parcel(
+    // A message for an element, under the node's own stamp or not. Nothing is sent.
+    pub(crate) fn hear_parcel(
         &mut self,
-        alloc: Global,
-        own: bool,
+        stamp: Stamp,
         roster: &Seats,
-        iteration: u64,
+        sent_under: Stamp,
         entry: EntryId,
+        iteration: u64,
         to: ElementId,
-        payload: Payload,
-    ) -> Result<Outbox, Memory>
-        ensures { IfOk result (λ out. record { body = self.new; out = out } ≡ (if own then parcel_heard roster.now iteration entry to payload self.old else unmoved self.old)) }
+        payload: &Payload,
+    ) -> Result<(), Memory>
+        ensures { OnOk result (record { body = self.new; out = [] } ≡ (if same_stamp sent_under stamp then parcel_heard roster.now iteration entry to payload.now self.old else unmoved self.old)) }
     {
-        if !own {
-            return Ok(Outbox::new(alloc));
+        if !sent_under.is_same(stamp) {
+            return Ok(());
         }
         let seat = roster.seat(to);
         take_parcel(seat, iteration, entry, payload, &mut self.objects)?;
-        Ok(Outbox::new(alloc))
+        Ok(())
     }
 
     // A reduction's total.
@@ -381,7 +358,7 @@ impl Live {
                     iteration,
                     port: Port::Total(reduction),
                 };
-                take_total(plan, x.owner, key, one_value(value), &mut self.objects)?;
+                take_total(plan, x.owner, key, &one_value(value), &mut self.objects)?;
                 Ok(Outbox::new(alloc))
             }
         }
@@ -460,10 +437,10 @@ fn take_parcel(
     seat: Option<u32>,
     iteration: u64,
     entry: EntryId,
-    payload: Payload,
+    payload: &Payload,
     objects: &mut Vec<Object>,
 ) -> Result<(), Memory>
-    ensures { OnOk result (objects.new.items ≡ taken_at iteration entry payload objects.old.items seat) }
+    ensures { OnOk result (objects.new.items ≡ taken_at iteration entry payload.now objects.old.items seat) }
 {
     if let Some(i) = seat {
         take_at(i, iteration, entry, payload, objects)?;
@@ -475,10 +452,10 @@ fn take_at(
     i: u32,
     iteration: u64,
     entry: EntryId,
-    payload: Payload,
+    payload: &Payload,
     objects: &mut Vec<Object>,
 ) -> Result<(), Memory>
-    ensures { OnOk result (objects.new.items ≡ taken_by iteration entry payload objects.old.items i (slice_get objects.old.items i)) }
+    ensures { OnOk result (objects.new.items ≡ taken_by iteration entry payload.now objects.old.items i (slice_get objects.old.items i)) }
 {
     if (i as usize) < objects.len() {
         let key = RefKey {
@@ -495,10 +472,10 @@ fn take_total(
     plan: &Plan,
     array: u16,
     key: RefKey,
-    payload: Payload,
+    payload: &Payload,
     objects: &mut Vec<Object>,
 ) -> Result<(), Memory>
-    ensures { OnOk result (objects.new.items ≡ map (taken_in plan.now array key payload) objects.old.items) }
+    ensures { OnOk result (objects.new.items ≡ map (taken_in plan.now array key payload.now) objects.old.items) }
 {
     for i in 0..objects.len() {
         take_in(plan, array, key, payload, &mut objects[i])?;
@@ -510,10 +487,10 @@ fn take_in(
     plan: &Plan,
     array: u16,
     key: RefKey,
-    payload: Payload,
+    payload: &Payload,
     object: &mut Object,
 ) -> Result<(), Memory>
-    ensures { OnOk result (object.new ≡ taken_in plan.now array key payload object.old) }
+    ensures { OnOk result (object.new ≡ taken_in plan.now array key payload.now object.old) }
 {
     if plan.place(object.element()).array == array {
         take(object, key, payload)?;

@@ -1,14 +1,18 @@
 //! A slot's node.
 
-ghost use Rattle.std.specs.Prelude.{◌≡◌, ◌≤◌, ◌<◌, ◌*◌, ◌+◌, ◌^◌, ◌++◌, ◌&&◌, if◌then◌else◌, ℕ, Bool, true, false, length, map, is_none, IfOk, IfSome, MatchOption, None, OnErr, OnOk, IsErr, Some};
+ghost use Rattle.std.specs.Prelude.{◌≡◌, ◌≤◌, ◌<◌, ◌*◌, ◌+◌, ◌^◌, ◌++◌, ◌&&◌, if◌then◌else◌, ℕ, Bool, true, false, List, [], length, map, is_none, IfOk, IfSome, MatchOption, None, OnErr, OnOk, IsErr, Some};
 ghost use Rattle.std.specs.List.{AllByRecursion};
+ghost use Rattle.chare_base.specs.declared.plan.Plan.{Plan};
+ghost use Rattle.chare_base.specs.declared.slots.SlotId.{SlotId};
 ghost use Rattle.chare_base.specs.Elements.{elements};
 ghost use Rattle.chare_base.specs.Placing.{members};
+ghost use Rattle.fault_script.specs.declared.fault.Fault.{Fault};
 ghost use Rattle.fault_script.specs.Lines.{faults_of};
+ghost use Rattle.letter_post.specs.declared.letter.Letter.TheVariants as letters;
 ghost use Rattle.letter_post.specs.Orders.{next_order, order_of};
 ghost use Rattle.object_steps.specs.Objects.{Fits};
 ghost use Rattle.node_core.specs.Keeps.{Fitted, FittedBody};
-ghost use Rattle.node_core.specs.Nodes.{all_at, can_run_by, first_running, has_packed, next_begin, node_can_run, node_from, node_heard, node_heard_as, node_heard_by, node_packed, node_packed_by, node_ran, node_ran_by, node_turned, rests, seated_in};
+ghost use Rattle.node_core.specs.Nodes.{all_at, can_run_by, first_running, has_packed, next_begin, node_can_run, node_from, node_heard, node_heard_as, node_heard_by, node_packed, node_packed_by, node_ran, node_ran_by, node_turned, out_of, rests, seated_in, turn_with};
 ghost use Rattle.node_core.specs.Starts.{flips_replica, replica_flips, start_state, started_if, starts};
 
 use crate::live::{Live, all_at, first_running, idle, next_begin};
@@ -16,8 +20,9 @@ use crate::object::can_run;
 use crate::orders::obey;
 use crate::piece::pack_objects;
 use crate::roster::Seats;
-use crate::turn::Turn;
+use crate::turn::{Turn, TurnKind};
 use chare_base::memory::Memory;
+use chare_base::message::{EntryId, Payload};
 use chare_base::placement::Placement;
 use chare_base::plan::{ElementId, Plan};
 use chare_base::slots::{LineSet, SlotId};
@@ -154,7 +159,6 @@ impl Node {
     /// said of that element alone. A node that rests runs nothing, and answers `Awaits`.
     ///
     /// `Memory`: an allocation was refused; the node is over.
-    #[tactic(auto, unfolding(crate::specs::Nodes::node_ran))]
     pub fn run_element<M: Placement>(
         &mut self,
         alloc: Global,
@@ -170,23 +174,44 @@ impl Node {
         ensures err { OnErr result (self.new.over ≡ true) }
         ensures over { self.old.over ≡ true → IsErr result }
     {
+        let mut outbox = Outbox::new(alloc);
+        let kind = self.run_into(alloc, plan, script, map, e, limit, &mut outbox)?;
+        Ok(turn_with(kind, outbox))
+    }
+
+    /// A turn of one of its elements, as `run_element` does it. What it sent is put into the caller's outbox, which is
+    /// empty before, so that its memory is used again.
+    ///
+    /// `Memory`: an allocation was refused; the node is over.
+    #[tactic(auto, unfolding(crate::specs::Nodes::node_ran))]
+    pub fn run_into<M: Placement>(
+        &mut self,
+        alloc: Global,
+        plan: &Plan,
+        script: &Script,
+        map: &M,
+        e: ElementId,
+        limit: u64,
+        out: &mut Outbox,
+    ) -> Result<TurnKind, Memory>
+        requires fits { Fitted plan.now self.old }
+        requires place { length (M.place map.now) ≡ elements plan.now }
+        requires empty { out.old ≡ [] }
+        ensures ok { IfOk result (λ kind. record { node = self.new; turn = turn_with kind out.new } ≡ node_ran plan.now (faults_of script.now) (M.place map.now) limit e.0 self.old) }
+        ensures sent { IfOk result (λ kind. out.new ≡ out_of (node_ran plan.now (faults_of script.now) (M.place map.now) limit e.0 self.old).turn) }
+        ensures err { OnErr result (self.new.over ≡ true) }
+        ensures over { self.old.over ≡ true → IsErr result }
+    {
         if self.over {
             return Err(Memory);
         }
+        let roster = &self.roster;
+        let body = &mut self.body;
+        let effects = &mut self.effects;
         match run_body(
-            alloc,
-            plan,
-            script,
-            map,
-            self.slot,
-            self.last,
-            &self.roster,
-            e,
-            limit,
-            &mut self.body,
-            &mut self.effects,
+            alloc, plan, script, map, self.slot, self.last, roster, e, limit, body, effects, out,
         ) {
-            Ok(turn) => Ok(turn),
+            Ok(kind) => Ok(kind),
             Err(Memory) => {
                 self.over = true;
                 Err(Memory)
@@ -219,7 +244,10 @@ impl Node {
         }
         match self.first_running(plan, limit) {
             Some(e) => self.run_element(alloc, plan, script, map, e, limit),
-            None => Ok(idle(self.next_begin().is_some())),
+            None => {
+                let kind = idle(self.next_begin().is_some());
+                Ok(turn_with(kind, Outbox::new(alloc)))
+            }
         }
     }
 
@@ -251,22 +279,49 @@ impl Node {
         if self.over {
             return Err(Memory);
         }
+        let _ = script;
         let last = self.last.after(&letter);
-        match hear_body(
-            alloc,
-            plan,
-            script,
-            map,
-            self.slot,
-            self.last,
-            &self.roster,
-            letter,
-            &mut self.body,
-        ) {
+        let roster = &self.roster;
+        let body = &mut self.body;
+        match hear_body(alloc, plan, map, self.slot, self.last, roster, letter, body) {
             Ok(out) => {
                 self.last = last;
                 Ok(out)
             }
+            Err(Memory) => {
+                self.over = true;
+                Err(Memory)
+            }
+        }
+    }
+
+    /// Hears a message for one of its elements, as `hear` does a Parcel, without taking it from where it lies. Nothing
+    /// is sent.
+    ///
+    /// `Memory`: an allocation was refused; the node is over.
+    #[tactic(auto, unfolding(crate::specs::Nodes::node_heard))]
+    pub fn hear_parcel(
+        &mut self,
+        sent_under: Stamp,
+        entry: EntryId,
+        iteration: u64,
+        to: ElementId,
+        payload: &Payload,
+    ) -> Result<(), Memory>
+        ensures ok { (p : Plan) (script : List Fault) (place : List ℕ) → OnOk result (record { node = self.new; out = [] } ≡ node_heard p script place (letters.Parcel sent_under entry iteration to payload.now) self.old) }
+        ensures err { OnErr result (self.new.over ≡ true) }
+        ensures over { self.old.over ≡ true → IsErr result }
+    {
+        if self.over {
+            return Err(Memory);
+        }
+        let last = self.last;
+        let roster = &self.roster;
+        let body = &mut self.body;
+        match take_parcel(
+            last, roster, sent_under, entry, iteration, to, payload, body,
+        ) {
+            Ok(()) => Ok(()),
             Err(Memory) => {
                 self.over = true;
                 Err(Memory)
@@ -403,26 +458,44 @@ fn run_body<M: Placement>(
     limit: u64,
     body: &mut Option<Live>,
     effects: &mut Effects,
-) -> Result<Turn, Memory>
+    out: &mut Outbox,
+) -> Result<TurnKind, Memory>
     requires fits { FittedBody plan.now body.old }
     requires place { length (M.place map.now) ≡ elements plan.now }
-    ensures { (over : Bool) → IfOk result (λ turn. record { node = node_from slot last roster.now over body.new; turn = turn } ≡ node_ran_by plan.now (faults_of script.now) (M.place map.now) limit e.0 (node_from slot last roster.now over body.old) body.old) }
+    requires empty { out.old ≡ [] }
+    ensures told { (over : Bool) → IfOk result (λ kind. record { node = node_from slot last roster.now over body.new; turn = turn_with kind out.new } ≡ node_ran_by plan.now (faults_of script.now) (M.place map.now) limit e.0 (node_from slot last roster.now over body.old) body.old) }
+    ensures sent { IfOk result (λ kind. out.new ≡ out_of (turn_with kind out.new)) }
 {
     match body {
-        None => Ok(Turn::Awaits),
+        None => Ok(TurnKind::Awaits),
         Some(live) => {
-            let turn = live.run(
-                alloc, plan, script, map, slot, last.stamp, roster, e, limit, effects,
+            let kind = live.run(
+                alloc, plan, script, map, slot, last.stamp, roster, e, limit, effects, out,
             )?;
-            Ok(turn)
+            Ok(kind)
         }
+    }
+}
+
+// A turn with the letters that it sent.
+fn turn_with(kind: TurnKind, outbox: Outbox) -> Turn
+    ensures { result ≡ turn_with kind outbox }
+{
+    match kind {
+        TurnKind::Ran { element, spot } => Turn::Ran {
+            element,
+            spot,
+            outbox,
+        },
+        TurnKind::Held => Turn::Held,
+        TurnKind::Awaits => Turn::Awaits,
+        TurnKind::Dies { line } => Turn::Dies { line },
     }
 }
 
 fn hear_body<M: Placement>(
     alloc: Global,
     plan: &Plan,
-    script: &Script,
     map: &M,
     slot: SlotId,
     last: LastOrder,
@@ -431,10 +504,10 @@ fn hear_body<M: Placement>(
     body: &mut Option<Live>,
 ) -> Result<Outbox, Memory>
     requires { length (M.place map.now) ≡ elements plan.now }
-    ensures { (over : Bool) → IfOk result (λ out. record { node = node_from slot (next_order last letter) roster.now over body.new; out = out } ≡ node_heard_as plan.now (faults_of script.now) (M.place map.now) letter (node_from slot last roster.now over body.old) (order_of letter)) }
+    ensures { (script : List Fault) (over : Bool) → IfOk result (λ out. record { node = node_from slot (next_order last letter) roster.now over body.new; out = out } ≡ node_heard_as plan.now script (M.place map.now) letter (node_from slot last roster.now over body.old) (order_of letter)) }
 {
     if letter.is_mail() {
-        let out = hear_mail(alloc, plan, script, map, slot, last, roster, letter, body)?;
+        let out = hear_mail(alloc, plan, slot, last, roster, letter, body)?;
         Ok(out)
     } else {
         let out = obey(alloc, plan, map, slot, last.stamp, letter, body)?;
@@ -442,24 +515,46 @@ fn hear_body<M: Placement>(
     }
 }
 
-fn hear_mail<M: Placement>(
+fn hear_mail(
     alloc: Global,
     plan: &Plan,
-    script: &Script,
-    map: &M,
     slot: SlotId,
     last: LastOrder,
     roster: &Seats,
     letter: Letter,
     body: &mut Option<Live>,
 ) -> Result<Outbox, Memory>
-    ensures { (over : Bool) → IfOk result (λ out. record { node = node_from slot last roster.now over body.new; out = out } ≡ node_heard_by plan.now (faults_of script.now) (M.place map.now) letter (node_from slot last roster.now over body.old) body.old) }
+    ensures { (script : List Fault) (place : List ℕ) (over : Bool) → IfOk result (λ out. record { node = node_from slot last roster.now over body.new; out = out } ≡ node_heard_by plan.now script place letter (node_from slot last roster.now over body.old) body.old) }
 {
     match body {
         None => Ok(Outbox::new(alloc)),
         Some(live) => {
-            let out = live.hear(alloc, plan, script, map, slot, last.stamp, roster, letter)?;
+            let out = live.hear(alloc, plan, slot, last.stamp, roster, letter)?;
             Ok(out)
+        }
+    }
+}
+
+// A message comes for an element. A spent node drops it.
+fn take_parcel(
+    last: LastOrder,
+    roster: &Seats,
+    sent_under: Stamp,
+    entry: EntryId,
+    iteration: u64,
+    to: ElementId,
+    payload: &Payload,
+    body: &mut Option<Live>,
+) -> Result<(), Memory>
+    ensures { (p : Plan) (script : List Fault) (place : List ℕ) (slot : SlotId) (over : Bool) → OnOk result (record { node = node_from slot last roster.now over body.new; out = [] } ≡ node_heard_by p script place (letters.Parcel sent_under entry iteration to payload.now) (node_from slot last roster.now over body.old) body.old) }
+{
+    match body {
+        None => Ok(()),
+        Some(live) => {
+            live.hear_parcel(
+                last.stamp, roster, sent_under, entry, iteration, to, payload,
+            )?;
+            Ok(())
         }
     }
 }

@@ -1,6 +1,6 @@
 //! One turn of one object.
 
-ghost use Rattle.std.specs.Prelude.{◌≡◌, ◌&&◌, ◌<◌, None, [], ◌∷◌, if◌then◌else◌, IfOk, OnOk, OnErr};
+ghost use Rattle.std.specs.Prelude.{◌≡◌, ◌&&◌, ◌<◌, None, [], ◌∷◌, if◌then◌else◌, ⊤, IfOk, MatchOption, OnOk, OnErr};
 ghost use Rattle.chare_base.specs.declared.plan.Plan.{Plan};
 ghost use Rattle.chare_eval.specs.Stage.{one_value};
 ghost use Rattle.fault_script.specs.Lines.{faults_of, flips_among, flips_in};
@@ -23,7 +23,7 @@ use ref_messages::key::RefKey;
 use std::alloc::Global;
 
 // One turn of an object: its ready part, or between two iterations the beginning of one below a limit, with its flips
-// and its first part. Some where a part ran.
+// and its first part. Some where a part ran; nothing is sent elsewhere.
 pub(crate) fn turn(
     alloc: Global,
     plan: &Plan,
@@ -36,6 +36,7 @@ pub(crate) fn turn(
     requires fits { Fits plan.now object.old }
     requires none { effects.old ≡ [] }
     ensures ok { IfOk result (λ spot. record { object = object.new; spot = spot; sent = effects.new } ≡ turned plan.now (flips_in (faults_of script.now) lines.0) limit object.old) }
+    ensures idle { IfOk result (λ spot. MatchOption spot (effects.new ≡ []) (λ _. ⊤)) }
 {
     if object.is_at_top() {
         if object.done() < limit && object.done() < plan.iterations() {
@@ -59,6 +60,7 @@ fn go(
     requires fits { Fits plan.now object.old }
     requires none { effects.old ≡ [] }
     ensures ok { IfOk result (λ spot. record { object = object.new; spot = spot; sent = effects.new } ≡ goes plan.now object.old) }
+    ensures idle { IfOk result (λ spot. MatchOption spot (effects.new ≡ []) (λ _. ⊤)) }
 {
     match object.ready(plan) {
         Ready::Step { spot } => {
@@ -120,10 +122,10 @@ fn strike(fault: Fault, object: &mut Object)
 }
 
 // A message comes to an object. One whose iteration is over is dropped, and one that is held already.
-pub(crate) fn take(object: &mut Object, key: RefKey, payload: Payload) -> Result<(), Memory>
-    ensures ok { OnOk result (object.new ≡ takes object.old key payload) }
+pub(crate) fn take(object: &mut Object, key: RefKey, payload: &Payload) -> Result<(), Memory>
+    ensures ok { OnOk result (object.new ≡ takes object.old key payload.now) }
 {
-    match object.mail(key, payload) {
+    match object.mail(key, *payload) {
         Ok(()) => Ok(()),
         Err(PutFault::Memory) => Err(Memory),
         Err(PutFault::Old { .. }) => Ok(()),

@@ -25,6 +25,19 @@ pub enum Turn {
     },
 }
 
+/// What a turn of a node was, without what it sent.
+#[derive(Clone, Copy, Debug, PartialEq, Eq)]
+pub enum TurnKind {
+    /// The element ran this part of its step; if it was between two iterations, it began one first.
+    Ran { element: ElementId, spot: Spot },
+    /// No part can run, and each element that would begin an iteration would begin the limit or a later one.
+    Held,
+    /// No part can run, and no element is before an iteration of the plan.
+    Awaits,
+    /// The node died by this fault line as an element was about to begin an iteration.
+    Dies { line: u32 },
+}
+
 /// An element of a node as it sends.
 #[derive(Clone, Copy, Debug, PartialEq, Eq)]
 pub struct Sender {

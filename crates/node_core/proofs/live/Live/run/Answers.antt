@@ -4,8 +4,8 @@ use Rattle.node_core.specs.Nodes.{Body}
 use Rattle.node_core.proofs.Bodies.{ran_on}
 use Rattle.node_core.proofs.live.Live.run.Goals as goal
 
-pub returns : goal.returns
-returns g c =
+pub returns-clause-told : goal.returns-clause-told
+returns-clause-told g c =
     let inside : Body = record {
       objects = c.self.inside.objects.items;
       gatherings = c.self.inside.gatherings.items;
@@ -18,4 +18,4 @@ returns g c =
       waits = c.self.inside.waits;
     } in
     ran_on c.args.plan.now (lines_of (faults_of c.args.script.now) c.args.stamp) (g.M.Placement.place c.args.map.now) c.args.limit c.args.e.0 c.args.slot c.args.stamp c.args.roster.now inside c.args.self.now
-    c.seat-seat.result _ c.self.view_is c.if-self.false c.seat-seat.ensures (c.in_ok-turn.ensures inside)
+    c.seat-seat.result _ c.self.view_is c.if-self.false c.seat-seat.ensures (c.in_ok-kind.ensures.told inside)
