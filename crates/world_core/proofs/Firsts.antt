@@ -1,5 +1,5 @@
 -- The first of a list that is lent, and the letter in front of an inbox.
-use Rattle.std.proofs.Common.{◌≡◌, ◌≤◌, ◌<◌, ℕ, List, [], ◌∷◌, refl, ap, sym, arith, drop, length, Option, Some, None}
+use Rattle.std.proofs.Common.{◌≡◌, ◌≤◌, ◌<◌, List, [], ◌∷◌, refl, ap, sym, arith, drop, length, Option, Some, None}
 use Rattle.std.specs.Prelude.{MatchOption}
 use Rattle.std.specs.Borrow.{Bor}
 use Rattle.std.specs.Slice.{IsItemAt}

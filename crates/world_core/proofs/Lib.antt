@@ -1,6 +1,5 @@
 pub mod Lists
 pub mod Firsts
-pub mod Works
 pub mod Opening
 pub mod Renewing
 pub mod Picks

@@ -520,13 +520,15 @@ fn hear_parcel<M: Placement>(
     let _ = script;
     let _ = map;
     match inbox.first() {
-        Some(Letter::Parcel {
-            stamp,
-            entry,
-            iteration,
-            to,
-            payload,
-        }) => {
+        Some(
+            Letter::Parcel {
+                stamp,
+                entry,
+                iteration,
+                to,
+                payload,
+            },
+        ) => {
             let own = stamp.is_same(node.stamp());
             node.hear_parcel(*stamp, *entry, *iteration, *to, payload)?;
             if own {
