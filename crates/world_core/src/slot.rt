@@ -12,7 +12,7 @@ ghost use Rattle.world_core.specs.declared.doing.Since.TheVariants.{Nothing};
 ghost use Rattle.world_core.specs.declared.doing.SlotMove.TheVariants.{Pack};
 ghost use Rattle.world_core.specs.Sound.{Served};
 ghost use Rattle.world_core.specs.Steps.{Fresh, ParcelHeard, Renews, can_hear, can_run_on, setting};
-ghost use Rattle.world_core.specs.Worlds.{MayMove, acted, back_by, run_due, shifted, with_back, again, back_after, does, doing_of, idle_doing, moved_in, ordered_after, renewed, resumed_after, seats_of, since_after, slot_heard, slot_move, slot_moved, slot_moved_by, slot_put, slot_ran};
+ghost use Rattle.world_core.specs.Worlds.{MayMove, acted, back_by, run_due, shifted, with_back, again, back_after, does, doing_of, idle_doing, moved_in, ordered_after, renewed, resumed_after, seats_of, since_after, slot_heard, slot_move, slot_moved, slot_moved_by, slot_put, slot_ran, stand};
 
 use crate::doing::{Doing, Since, SlotMove};
 use crate::inbox::Inbox;
@@ -337,8 +337,7 @@ impl Slot {
             &mut self.seats,
         )? {
             self.inbox.forget_first();
-            let standing = cut.standing(self.node.slot());
-            self.tell(plan, &cut.round(), &standing);
+            self.tell_in(plan, cut);
             return Ok(());
         }
         self.hear_letter(alloc, plan, script, map, cut, out)
@@ -391,6 +390,21 @@ impl Slot {
             self.since,
             &mut self.seats,
         );
+    }
+
+    // The same in the agreement as it stands, of which nothing is asked where a letter waits.
+    fn tell_in(&mut self, plan: &Plan, cut: &Cut)
+        requires slot { HasSlot cut.now self.old.node.slot }
+        requires seats { self.old.seats ≡ seats_of plan.now (stand cut.now self.old.node.slot).top self.old.node }
+        requires roster { self.old.node.roster.iterations ≡ plan.now.iterations }
+        ensures { self.new ≡ record { node = self.old.node; box = self.old.box; back = self.old.back; since = self.old.since; seats = self.old.seats; doing = doing_of plan.now cut.now.round (stand cut.now self.old.node.slot) self.old.node self.old.box self.old.back self.old.since } }
+    {
+        if self.inbox.has_letter() {
+            self.doing = Some(Doing::Hear);
+        } else {
+            let standing = cut.standing(self.node.slot());
+            self.tell(plan, &cut.round(), &standing);
+        }
     }
 
     // Makes the first move that is due.

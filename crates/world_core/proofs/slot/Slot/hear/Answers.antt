@@ -1,5 +1,6 @@
 use Rattle.std.proofs.Common.{◌∙◌, ◌∷◌, [], List, Ok, refl, ap, sym, subst, drop}
 use Rattle.fault_script.specs.Lines.{faults_of}
+use Rattle.iteration_agree.specs.Cuts.{HasSlot}
 use Rattle.letter_post.specs.declared.letter.Letter.{Letter}
 use Rattle.letter_post.specs.declared.letter.Sent.{Sent}
 use Rattle.node_core.specs.Nodes.{NodeState, Outcome}
@@ -11,16 +12,25 @@ use Rattle.world_core.proofs.Slots.{heard_after}
 use Rattle.world_core.proofs.SlotsActed.{heard_seats, heard_slot}
 use Rattle.world_core.proofs.slot.Slot.hear.Goals as goal
 
-pub tell-requires-clause-seats : goal.tell-requires-clause-seats
-tell-requires-clause-seats g c =
+pub tell_in-requires-clause-seats : goal.tell_in-requires-clause-seats
+tell_in-requires-clause-seats g c =
     let s : Setting = setting c.args.plan.now (faults_of c.args.script.now) (g.M.Placement.place c.args.map.now) (g.M.Placement.count c.args.map.now) in
     let inside : SlotState = record { node = c.self.inside.node; box = c.self.inside.inbox; back = c.self.inside.back; since = c.self.inside.since; seats = c.self.inside.seats; doing = c.self.inside.doing } in
     let served : Served s c.args.cut.now inside = subst (Served s c.args.cut.now) (sym c.self.view_is) c.requires.served in
     let h : ParcelHeard s inside.box inside.node inside.seats c.hear_parcel.new.node c.hear_parcel.new.seats = c.hear_parcel.ensures.heard (c.in_ok-hear_parcel.was ∙ ap Ok c.if-branch.true) in
     let own = (heard_after c.nodes_keep.ensures.fits c.nodes_keep.ensures.hears s c.args.cut.now inside h.letter (drop 1 inside.box) c.hear_parcel.new.node served h.first (ap (λ (o : Outcome). o.node) h.heard)).slot in
-    let at = c.standing-standing.ensures ∙ ap (stand c.args.cut.now) (c.slot.ensures ∙ own) in
-    heard_seats s c.args.cut.now inside h.letter c.standing-standing.result c.hear_parcel.new.node [] (reach_of inside.node.last.stamp h.letter) c.hear_parcel.new.seats served.fresh.renews.fits at served.fresh.seats h.heard refl
-    (h.marked c.standing-standing.result.top)
+    let at = ap (stand c.args.cut.now) own in
+    heard_seats s c.args.cut.now inside h.letter (stand c.args.cut.now c.hear_parcel.new.node.slot) c.hear_parcel.new.node [] (reach_of inside.node.last.stamp h.letter) c.hear_parcel.new.seats served.fresh.renews.fits at served.fresh.seats h.heard refl
+    (h.marked (stand c.args.cut.now c.hear_parcel.new.node.slot).top)
+
+pub tell_in-requires-clause-slot : goal.tell_in-requires-clause-slot
+tell_in-requires-clause-slot g c =
+    let s : Setting = setting c.args.plan.now (faults_of c.args.script.now) (g.M.Placement.place c.args.map.now) (g.M.Placement.count c.args.map.now) in
+    let inside : SlotState = record { node = c.self.inside.node; box = c.self.inside.inbox; back = c.self.inside.back; since = c.self.inside.since; seats = c.self.inside.seats; doing = c.self.inside.doing } in
+    let served : Served s c.args.cut.now inside = subst (Served s c.args.cut.now) (sym c.self.view_is) c.requires.served in
+    let h : ParcelHeard s inside.box inside.node inside.seats c.hear_parcel.new.node c.hear_parcel.new.seats = c.hear_parcel.ensures.heard (c.in_ok-hear_parcel.was ∙ ap Ok c.if-branch.true) in
+    let own = (heard_after c.nodes_keep.ensures.fits c.nodes_keep.ensures.hears s c.args.cut.now inside h.letter (drop 1 inside.box) c.hear_parcel.new.node served h.first (ap (λ (o : Outcome). o.node) h.heard)).slot in
+    subst (HasSlot c.args.cut.now) (sym own) served.fresh.renews.slot
 
 pub returns-then-branch : goal.returns-then-branch
 returns-then-branch g c =
@@ -29,12 +39,12 @@ returns-then-branch g c =
     let served : Served s c.args.cut.now inside = subst (Served s c.args.cut.now) (sym c.self.view_is) c.requires.served in
     let h : ParcelHeard s inside.box inside.node inside.seats c.hear_parcel.new.node c.hear_parcel.new.seats = c.hear_parcel.ensures.heard (c.in_ok-hear_parcel.was ∙ ap Ok c.if-branch.true) in
     let own = (heard_after c.nodes_keep.ensures.fits c.nodes_keep.ensures.hears s c.args.cut.now inside h.letter (drop 1 inside.box) c.hear_parcel.new.node served h.first (ap (λ (o : Outcome). o.node) h.heard)).slot in
-    let at = c.standing-standing.ensures ∙ ap (stand c.args.cut.now) (c.slot.ensures ∙ own) in
-    let with_out : List Sent → Acted = λ o. record { slot = c.tell.new.self; cut = c.args.cut.now; out = o } in
+    let at = ap (stand c.args.cut.now) own in
+    let with_out : List Sent → Acted = λ o. record { slot = c.tell_in.new.self; cut = c.args.cut.now; out = o } in
     ap with_out c.requires.empty
-    ∙ heard_slot s c.args.cut.now inside h.letter c.standing-standing.result c.hear_parcel.new.node [] (reach_of inside.node.last.stamp h.letter) c.hear_parcel.new.seats served.fresh.renews.fits c.round.result c.forget_first.new.self
-    inside.back inside.since c.tell.new.self (h.first ∙ ap (λ (b : List Letter). h.letter ∷ b) (sym c.forget_first.ensures)) (sym (h.back inside.back)) (sym (h.since inside.since))
-    c.round.ensures.exact at served.fresh.seats h.heard refl (h.marked c.standing-standing.result.top) own c.tell.ensures
+    ∙ heard_slot s c.args.cut.now inside h.letter (stand c.args.cut.now c.hear_parcel.new.node.slot) c.hear_parcel.new.node [] (reach_of inside.node.last.stamp h.letter) c.hear_parcel.new.seats served.fresh.renews.fits c.args.cut.now.round c.forget_first.new.self
+    inside.back inside.since c.tell_in.new.self (h.first ∙ ap (λ (b : List Letter). h.letter ∷ b) (sym c.forget_first.ensures)) (sym (h.back inside.back)) (sym (h.since inside.since))
+    refl at served.fresh.seats h.heard refl (h.marked (stand c.args.cut.now c.hear_parcel.new.node.slot).top) own c.tell_in.ensures
     ∙ ap (λ (y : SlotState). slot_heard s c.args.cut.now y y.box) c.self.view_is
 
 pub hear_letter-requires-clause-served : goal.hear_letter-requires-clause-served
