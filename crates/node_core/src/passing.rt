@@ -33,8 +33,34 @@ pub(crate) fn pass_all<M: Placement>(
     requires { length (M.place map.now) ≡ elements plan.now }
     ensures { OnOk result (record { gatherings = gatherings.new.items; out = out.new } ≡ passed plan.now (M.place map.now) roster.now sender sent.now (record { gatherings = gatherings.old.items; out = out.old })) }
 {
+    if sent.is_empty() {
+        return Ok(());
+    }
+    // Which takes a look at each array, so once for all messages.
+    let elements = plan.elements();
+    pass_each(
+        alloc, plan, map, elements, roster, sender, sent, gatherings, out,
+    )
+}
+
+fn pass_each<M: Placement>(
+    alloc: Global,
+    plan: &Plan,
+    map: &M,
+    elements: u32,
+    roster: &Seats,
+    sender: Sender,
+    sent: &[Outgoing],
+    gatherings: &mut Vec<Tally>,
+    out: &mut Outbox,
+) -> Result<(), Memory>
+    requires place { length (M.place map.now) ≡ elements }
+    ensures { OnOk result (record { gatherings = gatherings.new.items; out = out.new } ≡ passed plan.now (M.place map.now) roster.now sender sent.now (record { gatherings = gatherings.old.items; out = out.old })) }
+{
     for message in sent {
-        pass_one(alloc, plan, map, roster, sender, message, gatherings, out)?;
+        pass_one(
+            alloc, plan, map, elements, roster, sender, message, gatherings, out,
+        )?;
     }
     Ok(())
 }
@@ -44,20 +70,21 @@ fn pass_one<M: Placement>(
     alloc: Global,
     plan: &Plan,
     map: &M,
+    elements: u32,
     roster: &Seats,
     sender: Sender,
     message: &Outgoing,
     gatherings: &mut Vec<Tally>,
     out: &mut Outbox,
 ) -> Result<(), Memory>
-    requires { length (M.place map.now) ≡ elements plan.now }
+    requires { length (M.place map.now) ≡ elements }
     ensures { OnOk result (record { gatherings = gatherings.new.items; out = out.new } ≡ passed_one plan.now (M.place map.now) roster.now sender message.now (record { gatherings = gatherings.old.items; out = out.old })) }
 {
     match message {
         Outgoing::Parcel { entry, to, payload } => {
             let slot = SlotId {
                 replica: sender.slot.replica,
-                node: node_of(plan, map, *to),
+                node: node_of(map, elements, *to),
             };
             let letter = Letter::Parcel {
                 stamp: sender.stamp,
@@ -78,16 +105,12 @@ fn pass_one<M: Placement>(
     }
 }
 
-// The node of an element, 0 where there is no such element.
-fn node_of<M: Placement>(plan: &Plan, map: &M, e: ElementId) -> u16
-    requires { length (M.place map.now) ≡ elements plan.now }
+// The node of an element of so many, 0 where there is no such element.
+fn node_of<M: Placement>(map: &M, elements: u32, e: ElementId) -> u16
+    requires { length (M.place map.now) ≡ elements }
     ensures { result ≡ node_at (M.place map.now) e.0 }
 {
-    if e.0 < plan.elements() {
-        map.node_of(e)
-    } else {
-        0
-    }
+    if e.0 < elements { map.node_of(e) } else { 0 }
 }
 
 // A contribution is gathered, and once none is missing the node's share goes to node 0.

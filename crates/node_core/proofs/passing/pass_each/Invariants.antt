@@ -1,6 +1,6 @@
 use Rattle.std.proofs.Common.{◌≡◌, drop}
 use Rattle.node_core.specs.Nodes.{passed}
-use Rattle.node_core.proofs.passing.pass_all.Given as goal
+use Rattle.node_core.proofs.passing.pass_each.Given as goal
 
 abbrev pub invariant-loop-message : goal.invariant-loop-message
 invariant-loop-message g l =
