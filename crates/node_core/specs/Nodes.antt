@@ -176,17 +176,7 @@ pub record Ran : Type 0 where
   pub turn : Turn
 
 abbrev pub with_objects : Body → List Progress → List Gathering → Body
-with_objects b objects gatherings = record {
-  objects = objects;
-  gatherings = gatherings;
-  totals = b.totals;
-  base = b.base;
-  fresh = b.fresh;
-  other = b.other;
-  live = b.live;
-  loan = b.loan;
-  waits = b.waits;
-}
+with_objects b objects gatherings = record b { objects = objects; gatherings = gatherings }
 
 -- the object of number i after a turn, its contributions gathered and its letters sent
 abbrev pub body_after : Plan → Body → ℕ → Progress → Turned → Passing → Ran
@@ -354,17 +344,7 @@ abbrev pub silent : NodeState → Outcome
 silent n = record { node = n; out = [] }
 
 abbrev pub with_fresh : Body → Piece → Body
-with_fresh b piece = record {
-  objects = b.objects;
-  gatherings = b.gatherings;
-  totals = b.totals;
-  base = b.base;
-  fresh = Some piece;
-  other = b.other;
-  live = b.live;
-  loan = b.loan;
-  waits = b.waits;
-}
+with_fresh b piece = record b { fresh = Some piece }
 
 abbrev pub body_packed : Plan → SlotId → Stamp → Body → Piece → Heard
 body_packed p slot stamp b piece = record { body = with_fresh b piece; out = pack_sends p slot stamp piece b.other }
@@ -418,17 +398,7 @@ total_sent replica stamp r k sharers None = []
 total_sent replica stamp r k sharers (Some value) = map (total_to replica stamp r k value) sharers
 
 abbrev pub with_totals : Body → List Gathering → Body
-with_totals b totals = record {
-  objects = b.objects;
-  gatherings = b.gatherings;
-  totals = totals;
-  base = b.base;
-  fresh = b.fresh;
-  other = b.other;
-  live = b.live;
-  loan = b.loan;
-  waits = b.waits;
-}
+with_totals b totals = record b { totals = totals }
 
 abbrev pub share_tallied : ℕ → Stamp → ReductionId → ℕ → List ℕ → Body → Tallied → Heard
 share_tallied replica stamp r k sharers b t = record { body = with_totals b t.gatherings; out = total_sent replica stamp r k sharers t.total }
@@ -449,17 +419,7 @@ is_new stamp piece None = true
 is_new stamp piece (Some held) = nat_lt held.stamp.epoch stamp.epoch || not (held.piece.iteration == piece.iteration)
 
 abbrev pub with_other : Body → Held → Body
-with_other b held = record {
-  objects = b.objects;
-  gatherings = b.gatherings;
-  totals = b.totals;
-  base = b.base;
-  fresh = b.fresh;
-  other = Some held;
-  live = b.live;
-  loan = b.loan;
-  waits = b.waits;
-}
+with_other b held = record b { other = Some held }
 
 abbrev pub piece_kept : Plan → Stamp → Body → Held → Heard
 piece_kept p own b held = record { body = with_other b held; out = compared p own b.fresh (Some held) }
@@ -559,17 +519,7 @@ committed k live None = None
 committed k live (Some b) = committed_with k live b b.fresh
 
 abbrev pub awakened : Body → Body
-awakened b = record {
-  objects = b.objects;
-  gatherings = b.gatherings;
-  totals = b.totals;
-  base = b.base;
-  fresh = b.fresh;
-  other = b.other;
-  live = b.live;
-  loan = b.loan;
-  waits = false;
-}
+awakened b = record b { waits = false }
 
 -- replica 1 sends a piece that it holds fresh to its buddy again
 abbrev pub sent_again : SlotId → Stamp → Option Piece → List Sent

@@ -157,15 +157,15 @@ with_slot nodes all slot s = slice_set all (number_of nodes slot) s
 
 -- a letter comes at the back, so the slot hears next
 abbrev pub slot_put : Letter → SlotState → SlotState
-slot_put letter x = record { node = x.node; box = x.box ++ letter ∷ []; back = x.back; since = x.since; seats = x.seats; doing = Some doings.Hear }
+slot_put letter x = record x { box = x.box ++ letter ∷ []; doing = Some doings.Hear }
 
 abbrev pub put_by : ℕ → SlotId → Letter → Posts → Option SlotState → Posts
 put_by nodes slot letter b None = b
-put_by nodes slot letter b (Some s) = record { slots = with_slot nodes b.slots slot (slot_put letter s); desk = b.desk }
+put_by nodes slot letter b (Some s) = record b { slots = with_slot nodes b.slots slot (slot_put letter s) }
 
 abbrev pub put_in : ℕ → BoxId → Letter → Posts → Posts
 put_in nodes (boxes.Slot slot) letter b = put_by nodes slot letter b (slot_at nodes b.slots slot)
-put_in nodes boxes.Conductor letter b = record { slots = b.slots; desk = b.desk ++ letter ∷ [] }
+put_in nodes boxes.Conductor letter b = record b { desk = b.desk ++ letter ∷ [] }
 
 -- letters sent, each at the back of its inbox
 abbrev pub posted : ℕ → List Sent → Posts → Posts
@@ -221,11 +221,9 @@ pub record Acted : Type 0 where
   pub out : List Sent
 
 abbrev pub after_slot : Setting → SlotId → Acted → WorldState → WorldState
-after_slot s slot a w = record {
+after_slot s slot a w = record w {
   posts = posted s.nodes a.out (record { slots = with_slot s.nodes w.posts.slots slot a.slot; desk = w.posts.desk });
   cut = a.cut;
-  conductor = w.conductor;
-  over = w.over;
 }
 
 abbrev pub acted : Plan → CutState → Outcome → List Letter → Option ℕ → Since → Acted
@@ -272,7 +270,7 @@ back_by (slot_moves.Pack k) back = back
 back_by (slot_moves.Begin k) back = back
 
 abbrev pub with_back : Option ℕ → SlotState → SlotState
-with_back back x = record { node = x.node; box = x.box; back = back; since = x.since; seats = x.seats; doing = x.doing }
+with_back back x = record x { back = back }
 
 -- only the agreement moves
 abbrev pub moved_in : Plan → SlotState → SlotMove → CutState → Acted
@@ -311,11 +309,9 @@ by_slot s slot w acts (Some x) = after_slot s slot (acts x) w
 -- ---- events of the conductor
 
 abbrev pub after_conductor : Setting → Heard → List Letter → WorldState → WorldState
-after_conductor s h desk w = record {
+after_conductor s h desk w = record w {
   posts = posted s.nodes h.out (record { slots = w.posts.slots; desk = desk });
-  cut = w.cut;
   conductor = h.conductor;
-  over = w.over;
 }
 
 abbrev pub told_by : Setting → WorldState → List Letter → WorldState
@@ -324,7 +320,7 @@ told_by s w (letter ∷ more) = after_conductor s (conductor_heard letter w.cond
 
 -- the agreement moves, and with it what each slot would do
 abbrev pub in_cut : Plan → CutState → WorldState → WorldState
-in_cut p cut w = record { posts = record { slots = map (again p cut) w.posts.slots; desk = w.posts.desk }; cut = cut; conductor = w.conductor; over = w.over }
+in_cut p cut w = record w { posts = record { slots = map (again p cut) w.posts.slots; desk = w.posts.desk }; cut = cut }
 
 abbrev pub is_quiet : Round → Bool
 is_quiet (Quiet r) = true
@@ -360,7 +356,7 @@ sight_in cut slot = sight_of cut.round (slot_of cut slot)
 
 -- The conductor sees a slot: its cap is noted where the round gathers. How slots stand doesn't change.
 abbrev pub with_noted : SlotId → WorldState → WorldState
-with_noted slot w = record { posts = w.posts; cut = noted slot w.cut; conductor = w.conductor; over = w.over }
+with_noted slot w = record w { cut = noted slot w.cut }
 
 abbrev pub saw_in : Setting → SlotId → WorldState → WorldState
 saw_in s slot w = did_in s (conductor_did s.plan s.place (answers.Seen (sight_in w.cut slot)) w.conductor) (with_noted slot w)
