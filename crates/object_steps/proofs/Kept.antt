@@ -52,7 +52,7 @@ few_parts_of p e s (Some a) is = few_of a s (slice_get a.steps s) refl (λ x the
 pub few_parts : (p : Plan) (e s : ℕ) → length (parts_at p e s) ≤ 8
 few_parts p e s = few_parts_of p e s (array_of p e) refl
 
-there_below : {A : Type 0} (xs : List A) (i : ℕ) (x : A) → slice_get xs i ≡ Some x → i < length xs
+pub there_below : {A : Type 0} (xs : List A) (i : ℕ) (x : A) → slice_get xs i ≡ Some x → i < length xs
 there_below [] i x is = absurd cc
 there_below (y ∷ xs) zero x is = omega arith
 there_below (y ∷ xs) (suc i) x is = omega (arith, there_below xs i x is)
@@ -81,6 +81,7 @@ pub started_fits : (p : Plan) (e : ℕ) (cells : Cells) (done : ℕ) → e < ele
 started_fits p e cells done there count within = record {
   there = there;
   place = refl;
+  surrounded = refl;
   cells = count;
   within = within;
   since = refl;
@@ -95,6 +96,7 @@ begun_fits p o is top more =
     record {
       there = is.there;
       place = is.place;
+      surrounded = is.surrounded;
       cells = is.cells;
       within = is.within;
       since = is.since;
@@ -113,6 +115,7 @@ pub same_fits : (p : Plan) (o : Progress) (cells : Cells) (mail : Queue) → Fit
 same_fits p o cells mail is count since = record {
   there = is.there;
   place = is.place;
+  surrounded = is.surrounded;
   cells = count ∙ is.cells;
   within = is.within;
   since = since ∙ is.since;
@@ -180,6 +183,7 @@ advanced_fits p o spot is g = by_test (all_done after.parts (length parts)) (suc
     by_test true true a t = record {
       there = is.there;
       place = is.place;
+      surrounded = is.surrounded;
       cells = cells;
       within = omega (arith, g.underway.iteration);
       since = refl;
@@ -190,6 +194,7 @@ advanced_fits p o spot is g = by_test (all_done after.parts (length parts)) (suc
     by_test true false a t = record {
       there = is.there;
       place = is.place;
+      surrounded = is.surrounded;
       cells = cells;
       within = is.within;
       since = since;
@@ -204,6 +209,7 @@ advanced_fits p o spot is g = by_test (all_done after.parts (length parts)) (suc
     by_test false last a t = record {
       there = is.there;
       place = is.place;
+      surrounded = is.surrounded;
       cells = cells;
       within = is.within;
       since = since;

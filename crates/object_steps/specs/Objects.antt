@@ -10,6 +10,7 @@ use Rattle.chare_base.specs.declared.message.Port.TheVariants as ports
 use Rattle.chare_base.specs.declared.message.Source.{Source}
 use Rattle.chare_base.specs.declared.message.Source.TheVariants as sources
 use Rattle.chare_base.specs.declared.plan.ElementId.{ElementId}
+use Rattle.chare_base.specs.declared.plan.Entry.{Entry}
 use Rattle.chare_base.specs.declared.plan.Part.{Part}
 use Rattle.chare_base.specs.declared.plan.Place.{Place}
 use Rattle.chare_base.specs.declared.plan.Plan.{Plan}
@@ -31,6 +32,8 @@ pub record Progress : Type 0 where
   pub element : ElementId
   -- where it stands
   pub place : Place
+  -- whether some element sends to it at each entry of its array
+  pub surrounded : Bool
   pub cells : Cells
   -- the iterations completed
   pub done : ℕ
@@ -40,6 +43,20 @@ pub record Progress : Type 0 where
   pub parts : List Bool
   -- the messages that came and weren't taken yet
   pub mail : Queue
+
+-- what an edge gives where nobody stands who would send
+abbrev pub edge_of : Source → Option Payload
+edge_of (sources.Element sender) = None
+edge_of (sources.Edge payload) = Some payload
+
+-- whether some element sends to an element at each of these entries, the first of which has number n, that is of its array
+abbrev pub sent_from : Plan → ℕ → ℕ → List Entry → Bool
+sent_from p e n [] = true
+sent_from p e n (entry ∷ more) = not (entry.owner == (place_of p e).array && is_some (edge_of (source_of p n e))) && sent_from p e (suc n) more
+
+-- whether some element sends to an element at each entry of its array
+unfoldable pub is_surrounded : Plan → ℕ → Bool
+is_surrounded p e = sent_from p e 0 p.entries
 
 -- whether the first so many parts are done
 abbrev pub all_done : List Bool → ℕ → Bool
@@ -56,6 +73,7 @@ pub record Underway (p : Plan) (o : Progress) (s : ℕ) : Type 0 where
 pub record Fits (p : Plan) (o : Progress) : Type 0 where
   pub there : o.element.0 < elements p
   pub place : o.place ≡ place_of p o.element.0
+  pub surrounded : o.surrounded ≡ is_surrounded p o.element.0
   pub cells : length o.cells.numbers ≡ cells_of p o.element.0
   pub within : o.done ≤ p.iterations
   pub since : o.mail.since ≡ o.done
@@ -75,11 +93,7 @@ arrived_at p e iteration mail port = found_at p e port (message mail (key_of ite
 abbrev pub arrived : Plan → Progress → Inbox
 arrived p o = arrived_at p o.element.0 o.done o.mail
 
--- what an edge gives where nobody stands who would send, and so at a port, and for what a part needs
-abbrev pub edge_of : Source → Option Payload
-edge_of (sources.Element sender) = None
-edge_of (sources.Edge payload) = Some payload
-
+-- what an edge gives where nobody stands who would send at a port, and for what a part needs
 abbrev pub edge_at : Plan → ℕ → Port → Option Payload
 edge_at p e (ports.Entry entry) = edge_of (source_of p entry.0 e)
 edge_at p e (ports.Total reduction) = None
@@ -150,6 +164,7 @@ abbrev pub started : Plan → ℕ → Cells → ℕ → Progress
 started p e cells done = record {
   element = record { 0 = e };
   place = place_of p e;
+  surrounded = is_surrounded p e;
   cells = cells;
   done = done;
   step = None;

@@ -7,9 +7,9 @@ ghost use Rattle.chare_eval.specs.Stage.{part_runs};
 ghost use Rattle.ref_messages.specs.Refusal.{Takes, Refuses};
 ghost use Rattle.chare_base.specs.declared.plan.Plan.{Plan};
 ghost use Rattle.object_steps.specs.declared.ready.Ready.TheVariants as ready_as;
-ghost use Rattle.object_steps.specs.Objects.{Fits, advanced, all_done, arrived_at, awaits, begun, gone_on, mailed, ran, ready, started, struck, taken};
+ghost use Rattle.object_steps.specs.Objects.{Fits, advanced, all_done, arrived_at, awaits, begun, gone_on, is_surrounded, mailed, ran, ready, started, struck, taken};
 
-use crate::ready::{Ready, Standpoint, awaited, chosen, edge_given, given, is_done};
+use crate::ready::{Ready, Standpoint, awaited, chosen, edge_given, given, is_done, is_surrounded};
 use chare_base::cells::Cells;
 use chare_base::elements::StepPart;
 use chare_base::memory::Memory;
@@ -31,6 +31,8 @@ use std::marker::Model;
 pub struct Object {
     element: ElementId,
     place: Place,
+    // Whether some element sends to it at each entry of its array: kept, since it never changes.
+    surrounded: bool,
     cells: Cells,
     done: u64,
     step: Option<u8>,
@@ -43,7 +45,7 @@ impl Model for Object {
 
     ghost Value = { Progress };
 
-    ghost view = { λ o. record { element = o.element; place = o.place; cells = o.cells; done = o.done; step = o.step; parts = o.parts; mail = o.mail } };
+    ghost view = { λ o. record { element = o.element; place = o.place; surrounded = o.surrounded; cells = o.cells; done = o.done; step = o.step; parts = o.parts; mail = o.mail } };
 }
 
 impl Object {
@@ -56,9 +58,11 @@ impl Object {
         ensures exact { result ≡ started plan.now e.0 cells done }
         ensures fits { Fits plan.now result }
     {
+        let place = plan.place(e);
         Object {
             element: e,
-            place: plan.place(e),
+            place,
+            surrounded: is_surrounded(plan, e, place),
             cells,
             done,
             step: None,
@@ -122,6 +126,7 @@ impl Object {
                 let at = Standpoint {
                     element: self.element,
                     place: self.place,
+                    surrounded: self.surrounded,
                     iteration: self.done,
                     mail: &self.mail,
                 };
@@ -208,6 +213,7 @@ impl Object {
         let at = Standpoint {
             element: self.element,
             place: self.place,
+            surrounded: self.surrounded,
             iteration: self.done,
             mail: &self.mail,
         };
@@ -277,6 +283,7 @@ fn run(
 ) -> Result<(), Memory>
     requires element { at.element.0 < elements plan.now }
     requires place { at.place ≡ place_of plan.now at.element.0 }
+    requires surrounded { at.surrounded ≡ is_surrounded plan.now at.element.0 }
     requires cols { found.cols ≡ cols_at plan.now at.element.0 }
     ensures cells { OnOk result (cells.new ≡ (part_runs plan.now at.entry.element.0 step at.entry.iteration (arrived_at plan.now at.entry.element.0 at.entry.iteration at.entry.mail.now) found.entry.part.now (quiet cells.old)).cells) }
     ensures sent { OnOk result (effects.new ≡ effects.old ++ (part_runs plan.now at.entry.element.0 step at.entry.iteration (arrived_at plan.now at.entry.element.0 at.entry.iteration at.entry.mail.now) found.entry.part.now (quiet cells.old)).sent) }

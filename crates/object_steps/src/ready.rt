@@ -1,14 +1,14 @@
 //! What an object can do next.
 
-ghost use Rattle.std.specs.Prelude.{◌≡◌, ◌<◌, ◌≤◌, is_some, length, None};
+ghost use Rattle.std.specs.Prelude.{◌≡◌, ◌<◌, ◌≤◌, is_some, length, None, true};
 ghost use Rattle.chare_base.specs.Elements.{elements, place_of};
 ghost use Rattle.chare_base.specs.Entries.{source_of};
 ghost use Rattle.chare_base.specs.Ports.{port_needed};
 ghost use Rattle.chare_eval.specs.Inside.{is_done};
-ghost use Rattle.object_steps.specs.Objects.{arrived_at, awaited_from, can_run, edge_at, edge_given, edge_of, held_for, key_of, needs_entry, read_from, ready_from};
+ghost use Rattle.object_steps.specs.Objects.{arrived_at, awaited_from, can_run, edge_at, edge_given, edge_of, held_for, is_surrounded, key_of, needs_entry, read_from, ready_from};
 
 use chare_base::message::{EntryId, Need, Payload, Port, Source};
-use chare_base::plan::{Edge, ElementId, Part, Place, Plan, Spot};
+use chare_base::plan::{ElementId, Part, Place, Plan, Spot};
 use ref_messages::key::RefKey;
 use ref_messages::queue::RefQueue;
 
@@ -28,6 +28,8 @@ pub enum Ready {
 pub(crate) struct Standpoint<'a> {
     pub(crate) element: ElementId,
     pub(crate) place: Place,
+    // Whether some element sends to it at each entry of its array.
+    pub(crate) surrounded: bool,
     pub(crate) iteration: u64,
     pub(crate) mail: &'a RefQueue,
 }
@@ -42,6 +44,7 @@ pub(crate) fn chosen(
 ) -> Ready
     requires element { at.element.0 < elements plan.now }
     requires place { at.place ≡ place_of plan.now at.element.0 }
+    requires surrounded { at.surrounded ≡ is_surrounded plan.now at.element.0 }
     requires few { length parts.now ≤ 8 }
     ensures { result ≡ ready_from (arrived_at plan.now at.entry.element.0 at.entry.iteration at.entry.mail.now) step done.now 0 None parts.now }
 {
@@ -91,6 +94,7 @@ fn needs_entry(entry: EntryId, need: Need) -> bool
 fn can_run(plan: &Plan, at: Standpoint<'_>, need: Need) -> bool
     requires element { at.element.0 < elements plan.now }
     requires place { at.place ≡ place_of plan.now at.element.0 }
+    requires surrounded { at.surrounded ≡ is_surrounded plan.now at.element.0 }
     ensures { result ≡ can_run (arrived_at plan.now at.entry.element.0 at.entry.iteration at.entry.mail.now) need }
 {
     match need {
@@ -114,18 +118,50 @@ fn key_of(at: Standpoint<'_>, port: Port) -> RefKey
 fn is_there(plan: &Plan, at: Standpoint<'_>, port: Port) -> bool
     requires element { at.element.0 < elements plan.now }
     requires place { at.place ≡ place_of plan.now at.element.0 }
+    requires surrounded { at.surrounded ≡ is_surrounded plan.now at.element.0 }
     ensures { result ≡ is_some (arrived_at plan.now at.entry.element.0 at.entry.iteration at.entry.mail.now port) }
 {
     if at.mail.has(key_of(at, port)) {
         return true;
     }
-    edge_at(plan, at, port).is_some()
+    is_edge_at(plan, at, port)
+}
+
+// Whether nobody stands where the message at a port would come from.
+fn is_edge_at(plan: &Plan, at: Standpoint<'_>, port: Port) -> bool
+    requires element { at.element.0 < elements plan.now }
+    requires place { at.place ≡ place_of plan.now at.element.0 }
+    requires surrounded { at.surrounded ≡ is_surrounded plan.now at.element.0 }
+    ensures { result ≡ is_some (edge_at plan.now at.entry.element.0 port) }
+{
+    match port {
+        Port::Entry(entry) => is_edge_behind(plan, at, entry),
+        Port::Total(_) => false,
+    }
+}
+
+// The same at an entry.
+#[tactic(auto, unfolding(chare_base::specs::Entries::source_of))]
+fn is_edge_behind(plan: &Plan, at: Standpoint<'_>, entry: EntryId) -> bool
+    requires element { at.element.0 < elements plan.now }
+    requires place { at.place ≡ place_of plan.now at.element.0 }
+    requires surrounded { at.surrounded ≡ is_surrounded plan.now at.element.0 }
+    ensures { result ≡ is_some (edge_of (source_of plan.now entry.0 at.entry.element.0)) }
+{
+    if entry.0 as usize >= plan.entries.len() {
+        return true;
+    }
+    if has_known_sender(plan, at, entry) {
+        return false;
+    }
+    is_edge(plan.source_at(entry, at.element, at.place.index))
 }
 
 // What the edge gives where nobody stands who would send the message at a port.
 fn edge_at(plan: &Plan, at: Standpoint<'_>, port: Port) -> Option<Payload>
     requires element { at.element.0 < elements plan.now }
     requires place { at.place ≡ place_of plan.now at.element.0 }
+    requires surrounded { at.surrounded ≡ is_surrounded plan.now at.element.0 }
     ensures { result ≡ edge_at plan.now at.entry.element.0 port }
 {
     match port {
@@ -134,19 +170,56 @@ fn edge_at(plan: &Plan, at: Standpoint<'_>, port: Port) -> Option<Payload>
     }
 }
 
-// The same at an entry. Where opposite edges meet somebody always stands there, so no neighbour is worked out.
-#[tactic(auto, unfolding(chare_base::specs::Entries::source_of), using(crate::proofs::Finding::wraps_around))]
+// The same at an entry.
+#[tactic(auto, unfolding(chare_base::specs::Entries::source_of))]
 fn edge_behind(plan: &Plan, at: Standpoint<'_>, entry: EntryId) -> Option<Payload>
     requires element { at.element.0 < elements plan.now }
     requires place { at.place ≡ place_of plan.now at.element.0 }
+    requires surrounded { at.surrounded ≡ is_surrounded plan.now at.element.0 }
     ensures { result ≡ edge_of (source_of plan.now entry.0 at.entry.element.0) }
 {
     if entry.0 as usize >= plan.entries.len() {
         return Some(Payload::NONE);
     }
-    match plan.entry(entry).edge {
-        Edge::Wrap => None,
-        Edge::Else(_) => edge_of(plan.source_at(entry, at.element, at.place.index)),
+    if has_known_sender(plan, at, entry) {
+        return None;
+    }
+    edge_of(plan.source_at(entry, at.element, at.place.index))
+}
+
+// Whether it is known, with no neighbour worked out, that some element sends at an entry.
+#[tactic(auto, using(crate::proofs::Finding::sent))]
+fn has_known_sender(plan: &Plan, at: Standpoint<'_>, entry: EntryId) -> bool
+    requires entry { entry.0 < length plan.now.entries }
+    requires place { at.place ≡ place_of plan.now at.element.0 }
+    requires surrounded { at.surrounded ≡ is_surrounded plan.now at.element.0 }
+    ensures { result ≡ true → edge_of (source_of plan.now entry.0 at.entry.element.0) ≡ None }
+{
+    at.surrounded && plan.entry(entry).owner == at.place.array
+}
+
+// Whether some element sends to an element at each entry of its array.
+#[tactic(auto, unfolding(crate::specs::Objects::is_surrounded), using(crate::proofs::Finding::entries_few))]
+pub(crate) fn is_surrounded(plan: &Plan, e: ElementId, place: Place) -> bool
+    requires element { e.0 < elements plan.now }
+    requires place { place ≡ place_of plan.now e.0 }
+    ensures { result ≡ is_surrounded plan.now e.0 }
+{
+    for (i, entry) in plan.entries.as_slice().iter().enumerate() {
+        let number = EntryId(i as u16);
+        if entry.owner == place.array && is_edge(plan.source_at(number, e, place.index)) {
+            return false;
+        }
+    }
+    true
+}
+
+fn is_edge(source: Source) -> bool
+    ensures { result ≡ is_some (edge_of source) }
+{
+    match source {
+        Source::Element(_) => false,
+        Source::Edge(_) => true,
     }
 }
 
@@ -163,6 +236,7 @@ fn edge_of(source: Source) -> Option<Payload>
 pub(crate) fn edge_given(plan: &Plan, at: Standpoint<'_>, need: Need) -> Option<Payload>
     requires element { at.element.0 < elements plan.now }
     requires place { at.place ≡ place_of plan.now at.element.0 }
+    requires surrounded { at.surrounded ≡ is_surrounded plan.now at.element.0 }
     ensures { result ≡ edge_given plan.now at.entry.element.0 need }
 {
     match need {

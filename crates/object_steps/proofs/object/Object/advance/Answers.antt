@@ -7,14 +7,14 @@ use Rattle.object_steps.proofs.object.Object.advance.Goals as goal
 
 pub part_at-found-requires-clause-step : goal.part_at-found-requires-clause-step
 part_at-found-requires-clause-step c =
-    let inside : Progress = record { element = c.self.inside.element; place = c.self.inside.place; cells = c.self.inside.cells; done = c.self.inside.done; step = c.self.inside.step; parts = c.self.inside.parts; mail = c.self.inside.mail } in
+    let inside : Progress = record { element = c.self.inside.element; place = c.self.inside.place; surrounded = c.self.inside.surrounded; cells = c.self.inside.cells; done = c.self.inside.done; step = c.self.inside.step; parts = c.self.inside.parts; mail = c.self.inside.mail } in
     let P : Progress → Type 0 = λ o. Goes c.args.plan.now o c.args.spot in
     let g : P inside = subst P (sym c.self.view_is) (goes c.args.plan.now c.args.self.now c.args.spot c.requires.fits c.requires.ready) in
     g.underway.step
 
 pub part_at-found-requires-clause-part : goal.part_at-found-requires-clause-part
 part_at-found-requires-clause-part c =
-    let inside : Progress = record { element = c.self.inside.element; place = c.self.inside.place; cells = c.self.inside.cells; done = c.self.inside.done; step = c.self.inside.step; parts = c.self.inside.parts; mail = c.self.inside.mail } in
+    let inside : Progress = record { element = c.self.inside.element; place = c.self.inside.place; surrounded = c.self.inside.surrounded; cells = c.self.inside.cells; done = c.self.inside.done; step = c.self.inside.step; parts = c.self.inside.parts; mail = c.self.inside.mail } in
     let P : Progress → Type 0 = λ o. Goes c.args.plan.now o c.args.spot in
     let g : P inside = subst P (sym c.self.view_is) (goes c.args.plan.now c.args.self.now c.args.spot c.requires.fits c.requires.ready) in
     part_below c.args.plan.now inside c.args.spot g
@@ -24,14 +24,14 @@ bounds-self-inside-spot c = part_few c.args.plan.now c.args.self.now c.args.spot
 
 pub go_on-requires-clause-done : goal.go_on-requires-clause-done
 go_on-requires-clause-done c =
-    let inside : Progress = record { element = c.self.inside.element; place = c.self.inside.place; cells = c.self.inside.cells; done = c.self.inside.done; step = c.self.inside.step; parts = c.self.inside.parts; mail = c.self.inside.mail } in
+    let inside : Progress = record { element = c.self.inside.element; place = c.self.inside.place; surrounded = c.self.inside.surrounded; cells = c.self.inside.cells; done = c.self.inside.done; step = c.self.inside.step; parts = c.self.inside.parts; mail = c.self.inside.mail } in
     let P : Progress → Type 0 = λ o. Goes c.args.plan.now o c.args.spot in
     let g : P inside = subst P (sym c.self.view_is) (goes c.args.plan.now c.args.self.now c.args.spot c.requires.fits c.requires.ready) in
     few_done c.args.plan.now inside c.args.spot g
 
 pub go_on-requires-clause-step : goal.go_on-requires-clause-step
 go_on-requires-clause-step c =
-    let inside : Progress = record { element = c.self.inside.element; place = c.self.inside.place; cells = c.self.inside.cells; done = c.self.inside.done; step = c.self.inside.step; parts = c.self.inside.parts; mail = c.self.inside.mail } in
+    let inside : Progress = record { element = c.self.inside.element; place = c.self.inside.place; surrounded = c.self.inside.surrounded; cells = c.self.inside.cells; done = c.self.inside.done; step = c.self.inside.step; parts = c.self.inside.parts; mail = c.self.inside.mail } in
     let P : Progress → Type 0 = λ o. Goes c.args.plan.now o c.args.spot in
     let g : P inside = subst P (sym c.self.view_is) (goes c.args.plan.now c.args.self.now c.args.spot c.requires.fits c.requires.ready) in
     omega (arith, g.underway.step, c.part_at-found.ensures.steps)
