@@ -165,7 +165,7 @@ fn repeat(alloc: Global, out: &mut Vec<u8>, rest: &str) -> Result<()> {
     Ok(())
 }
 
-// Fills up to so many bytes with a comment.
+// Fills up to `size` bytes with a comment.
 fn pad(out: &mut Vec<u8>, size: usize) -> Result<()> {
     for _ in out.len()..size {
         out.push(b'#')?;

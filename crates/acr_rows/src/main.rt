@@ -30,7 +30,7 @@
 //!   that line has no LF. No other `\` may stand there: write `\x5C`;
 //! - a line `\repeat 30 "if 1 { "` is the text between its quotes 30 times, with no LF behind; `\#` in that text is the
 //!   number of the turn, from 1;
-//! - a line `\pad 65536` is a comment that fills the input up to so many bytes, with no LF behind.
+//! - a line `\pad 65536` is a comment that fills the input up to that many bytes, with no LF behind.
 //!
 //! A line that would begin with `== ` begins with `\x3D= `.
 #![tactic(auto)]

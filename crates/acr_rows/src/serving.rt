@@ -73,7 +73,7 @@ fn calls(alloc: Global, failing: Option<u64>) -> Result<Calls> {
     }
 }
 
-// The case again with each of so many reads failing in turn.
+// The case again with each of its `takes` reads failing in turn.
 fn each_take(alloc: Global, case: &Case, faults: Faults, takes: u64) -> Result<Option<String>> {
     for call in 0..takes {
         let take = Some(call);
@@ -85,7 +85,7 @@ fn each_take(alloc: Global, case: &Case, faults: Faults, takes: u64) -> Result<O
     Ok(None)
 }
 
-// The same with each of so many writes.
+// The same with each of its `gives` writes.
 fn each_give(alloc: Global, case: &Case, faults: Faults, gives: u64) -> Result<Option<String>> {
     for call in 0..gives {
         let give = Some(call);

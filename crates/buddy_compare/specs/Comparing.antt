@@ -29,7 +29,7 @@ verdict_at p more a b None = rest_verdict a b
 verdict_at p more a b (Some e) =
     if bytes_eq (take (size_of p e) a) (take (size_of p e) b) then more (drop (size_of p e) a) (drop (size_of p e) b) else Differ (id_of e)
 
--- at most so many records
+-- at most n records
 abbrev pub walked : Plan → ℕ → List ℕ → List ℕ → Verdict
 walked p zero a b = rest_verdict a b
 walked p (suc n) a b = verdict_at p (walked p n) a b (front_element p a)

@@ -47,7 +47,7 @@ index_at cols (Some row) (Some col) = Some (row * cols + col)
 index_at cols (Some row) None = None
 index_at cols None col = None
 
--- the index of the element at a row and a column of an array of so many rows and columns
+-- the index of the element at a row and a column, in an array of rows by cols elements
 abbrev pub neighbour : Edge → ℕ → ℕ → ℤ → ℤ → Option ℕ
 neighbour edge rows cols row col = index_at cols (coordinate edge rows row) (coordinate edge cols col)
 
@@ -63,7 +63,7 @@ target_index arrays entry index =
     neighbour entry.edge (rows_of arrays entry.owner) (cols_of arrays entry.owner)
     (pos (index / cols_of arrays entry.owner) -ℤ entry.down) (pos (index % cols_of arrays entry.owner) -ℤ entry.across)
 
--- so many values, from the first on
+-- eight numbers, the first n of which are the value
 abbrev pub filled : ℕ → ℤ → List ℤ
 filled zero value = replicate 8 (pos 0)
 filled (suc n) value = slice_set (filled n value) n value
@@ -97,7 +97,7 @@ target_of p x e = option_map_or (target_in p.arrays (place_of p e).index) (entry
 abbrev pub id_of : ℕ → ElementId
 id_of e = record { 0 = e }
 
--- a sender, if there is one, is one of so many elements
+-- a sender, if there is one, is one of count elements
 abbrev pub SentWithin : ℕ → Source → Type 0
 SentWithin count (sources.Element e) = e.0 < count
 SentWithin count (sources.Edge payload) = Unit {0}

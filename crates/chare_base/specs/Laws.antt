@@ -83,7 +83,7 @@ FirstStepIsFree = (p : Plan) (e q : ℕ) → need_at p e 0 q ≡ needs.Nothing
 
 -- ---- what an element's steps send
 
--- an entry that elements of an array send, with so many values
+-- an entry that elements of an array send, with count values
 pub record SendsTo (p : Plan) (array x count : ℕ) : Type 0 where
   pub entry : Entry
   pub is : entry_of p x ≡ Some entry

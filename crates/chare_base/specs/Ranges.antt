@@ -80,17 +80,17 @@ factor_in_range states scope = fold-Factor Bool Bool Bool (expr_step states scop
 abbrev pub start_in_range : State → Bool
 start_in_range s = expr_in_range [] (record { values = 0; loops = 0; which = not s.plain; iter = false }) s.start
 
--- what a part's expressions read, where so many values come and so many loops are around
+-- what a part's expressions read, by the number of values that come and of loops around
 abbrev pub part_scope : ℕ → ℕ → Scope
 part_scope values loops = record { values = values; loops = loops; which = false; iter = true }
 
 -- ---- statements
 
--- an expression of a part, where so many values come and so many loops are around
+-- an expression of a part, by the number of values that come and of loops around
 unfoldable pub value_in_range : List State → ℕ → ℕ → Expr → Bool
 value_in_range states values loops e = expr_in_range states (part_scope values loops) e
 
--- the entry is sent by elements of this array, with so many values
+-- the entry is sent by elements of this array, with count values
 abbrev pub sent_from : ℕ → ℕ → Option Entry → Bool
 sent_from array count None = false
 sent_from array count (Some e) = e.source == array && e.values == count
@@ -100,7 +100,7 @@ abbrev pub reduced_in : ℕ → Option Reduction → Bool
 reduced_in array None = false
 reduced_in array (Some r) = r.owner == array
 
--- whether a statement, inside so many loops, names what is there alone
+-- whether a statement names what is there alone, by the number of loops around it
 abbrev pub Test : Type 0
 Test = ℕ → Bool
 

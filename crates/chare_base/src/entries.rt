@@ -229,7 +229,7 @@ fn inside(size: u32, place: i64) -> Option<u32>
     }
 }
 
-// What an edge gives in place of a message of so many values.
+// What an edge gives in place of a message, which has `values` values.
 fn edge_payload(edge: Edge, values: u8) -> Payload
     requires { values ≤ 8 }
     ensures { result ≡ edge_payload edge values }

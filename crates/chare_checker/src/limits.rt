@@ -44,8 +44,8 @@ fn arrays_over(arrays: &[ArrayDecl], found: Option<CheckFault>) -> Option<CheckF
     found
 }
 
-// The counts at an array, with which there are so many arrays of so many elements, and before which all elements
-// have so many cells.
+// The counts at an array: `count` arrays have `elements` elements, this one included, and the elements before it have
+// `all_cells` cells.
 #[tactic(auto, unfolding(job_rules::specs::Limits::array_over))]
 fn array_over(
     count: u64,
@@ -63,7 +63,7 @@ fn array_over(
     own_over(all_cells, array, found)
 }
 
-// The counts within an array, before which all elements have so many cells.
+// The counts within an array, before which the elements have `all_cells` cells.
 fn own_over(all_cells: u64, array: &ArrayDecl, found: Option<CheckFault>) -> Option<CheckFault>
     ensures { result ≡ own_over all_cells found array.now }
 {
@@ -102,7 +102,7 @@ fn states_over(
     found
 }
 
-// The counts at a state, with which there are so many states and so many cells of an element and of all.
+// The counts at a state: of the states, of an element's cells and of all cells, this one included.
 #[tactic(auto, unfolding(job_rules::specs::Limits::state_over))]
 fn state_over(
     count: u64,
@@ -165,7 +165,7 @@ fn steps_over(steps: &[StepDecl], found: Option<CheckFault>) -> Option<CheckFaul
     found
 }
 
-// The counts at a step, with which there are so many steps.
+// The count at a step: `count` steps, this one included.
 #[tactic(auto, unfolding(job_rules::specs::Limits::step_over))]
 fn step_over(count: u64, step: &StepDecl, found: Option<CheckFault>) -> Option<CheckFault>
     ensures { result ≡ step_over count found step.now }

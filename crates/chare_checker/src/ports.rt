@@ -89,7 +89,7 @@ fn port_fault(
     sooner(once, early_fault(declared, send, receipt))
 }
 
-// The use of a port before which it has so many others.
+// The use of a port that stands behind `before` others of it.
 fn use_at(uses: &[PortUse], port: usize, before: usize) -> Option<PortUse>
     ensures { result ≡ slice_get (uses_of port uses.now) before }
 {

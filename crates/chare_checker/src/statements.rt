@@ -369,7 +369,7 @@ fn send_to_member(
     Ok(())
 }
 
-// A send of so many values to a name with this meaning.
+// A send of `count` values to a name with this meaning.
 fn send_to_entry(
     part: PartAt,
     at: u32,

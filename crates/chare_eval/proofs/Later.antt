@@ -54,7 +54,7 @@ fold_next p lines n = ap (λ k. round p lines k (fold_from p lines 0 (opening p)
 same_struck : (a b : List Flip) (k n : ℕ) (all : List Cells) → k ≤ n → flips_from k a ≡ flips_from k b → struck a n all ≡ struck b n all
 same_struck a b k n all h same = struck_from a k n all h ∙ ap (λ lines. struck lines n all) same ∙ sym (struck_from b k n all h)
 
--- so many iterations later
+-- m iterations later
 later_by : (p : Plan) (a b : List Flip) (k m n : ℕ) → n ≡ m + k → flips_from k a ≡ flips_from k b → fold p a k ≡ fold p b k → fold p a n ≡ fold p b n
 later_by p a b k zero n is same start = let q : n ≡ k = omega (arith, is) in ap (fold p a) q ∙ start ∙ ap (fold p b) (sym q)
 later_by p a b k (suc m) n is same start =

@@ -52,7 +52,7 @@ single (v ∷ w ∷ l) h = absurd (let n : suc (suc (length l)) ≡ 1 = h in ome
 -- ---- values in element order
 
 module _ (share : ℕ → List ℤ) where
-  -- those of so many elements, from one on
+  -- those of n elements, from e on
   abbrev gathered : ℕ → ℕ → List ℤ
   gathered e zero = []
   gathered e (suc n) = share e ++ gathered (suc e) n

@@ -1,4 +1,4 @@
--- The variables of loops, of which so many were written.
+-- The variables of loops, the first of which were written.
 use Rattle.std.proofs.Common.{◌≡◌, ℕ, zero, suc, ◌<◌, ◌≤◌, ℤ, pos, List, [], ◌∷◌, length, replicate, slice_set, refl, ap, ◌∙◌, arith}
 use Rattle.chare_eval.specs.Loops.{shown}
 use Rattle.chare_eval.specs.Value.{number_at}

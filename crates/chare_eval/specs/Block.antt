@@ -55,7 +55,7 @@ abbrev pub in_order : List Act → Act
 in_order [] run = run
 in_order (a ∷ more) run = in_order more (a run)
 
--- so many turns of a loop, whose variable is i in the first
+-- n turns of a loop, whose variable is i in the first
 abbrev pub turns : ℕ → ℤ → ℕ → Act → Act
 turns zero i slot block run = run
 turns (suc n) i slot block run = turns n (i +ℤ pos 1) slot block (block (with_loop slot i run))

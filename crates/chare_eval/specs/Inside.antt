@@ -18,7 +18,7 @@ use Rattle.chare_eval.specs.Stage.{Inbox, inbox, part_runs, stage, state_at, wit
 
 -- ---- between two iterations
 
--- an element's cells after so many iterations
+-- an element's cells after k iterations
 abbrev pub cells_between : Plan → List Flip → ℕ → ℕ → Cells
 cells_between p lines k e = state_at (fold p lines k) e
 

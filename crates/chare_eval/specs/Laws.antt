@@ -38,7 +38,7 @@ NumbersFit cells = AllByRecursion (FitsSigned w64) cells.numbers
 abbrev pub FoldsFit : Type 0
 FoldsFit = (p : Plan) (lines : List Flip) (n : ℕ) → AllByRecursion NumbersFit (fold p lines n)
 
--- a slip of one of so many steps, in one of so many iterations
+-- a slip of one of the steps, in one of the iterations
 pub record Noted (steps iterations : ℕ) (slip : Slip) : Type 0 where
   pub some : 1 ≤ slip.kind
   pub kinds : slip.kind ≤ 3
@@ -110,7 +110,7 @@ abbrev pub some_number : Option ℤ → List ℤ
 some_number None = []
 some_number (Some v) = v ∷ []
 
--- the contributions of so many elements, from one on, in element order
+-- the contributions of n elements, from e on, in element order
 abbrev pub contributions_from : Plan → List Flip → ℕ → ℕ → ℕ → ℕ → List ℤ
 contributions_from p lines k r e zero = []
 contributions_from p lines k r e (suc n) = some_number (contribution_of p lines k r e) ++ contributions_from p lines k r (suc e) n

@@ -1,7 +1,7 @@
--- The variables of loops, of which so many were written.
+-- The variables of loops, the first of which were written.
 use Rattle.std.specs.Prelude.{ℕ, zero, suc, ℤ, pos, List, [], ◌∷◌}
 
--- the first so many of these numbers, and 0 for each of the others
+-- the numbers that were written, and 0 for each of the others
 abbrev pub shown : ℕ → List ℤ → List ℤ
 shown written [] = []
 shown zero (x ∷ more) = pos 0 ∷ shown zero more

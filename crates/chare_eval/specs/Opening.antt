@@ -19,7 +19,7 @@ no_slip = record { kind = 0; step = 0; iteration = 0 }
 abbrev pub start_value : Scene → Expr → ℕ → ℤ
 start_value scene start which = int_wrap w64 (value_of start (record scene { which = which }) []).value
 
--- those of so many cells, from one on
+-- those of n cells, from one on
 abbrev pub cell_starts : Scene → Expr → ℕ → ℕ → List ℤ
 cell_starts scene start which zero = []
 cell_starts scene start which (suc n) = start_value scene start which ∷ cell_starts scene start (suc which) n
@@ -33,7 +33,7 @@ starts scene (s ∷ more) = cell_starts scene s.start 0 s.cells ++ starts scene 
 unfoldable pub start_of : Plan → ℕ → Cells
 start_of p e = record { numbers = starts (scene_of p e 0 nothing) (states_of p e); slip = no_slip }
 
--- so many elements, from one on
+-- n elements, from e on
 abbrev pub starts_from : Plan → ℕ → ℕ → List Cells
 starts_from p zero e = []
 starts_from p (suc n) e = start_of p e ∷ starts_from p n (suc e)

@@ -135,7 +135,7 @@ effect p s k e b = step_of p s k e (inbox p b.mail e) (state_at b.states e)
 abbrev pub with_effect : ℕ → Board → Effect → Board
 with_effect e b f = record { states = slice_set b.states e f.cells; mail = b.mail ++ f.sent }
 
--- the first so many elements have run a step of an iteration, in element order
+-- the first e elements have run a step of an iteration, in element order
 unfoldable pub ran : Plan → ℕ → ℕ → ℕ → Board → Board
 ran p s k zero b = b
 ran p s k (suc e) b = with_effect e (ran p s k e b) (effect p s k e (ran p s k e b))

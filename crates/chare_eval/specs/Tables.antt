@@ -94,12 +94,12 @@ after_effect e f b = record { states = slice_set b.states e f.cells; tables = al
 abbrev pub element_runs : Plan → ℕ → ℕ → ℕ → Sorted → Sorted
 element_runs p s k e b = after_effect e (step_of p s k e (box_of p b.tables e) (state_at b.states e)) b
 
--- the same of so many elements
+-- the same of the first e elements
 unfoldable pub elements_run : Plan → ℕ → ℕ → ℕ → Sorted → Sorted
 elements_run p s k zero b = b
 elements_run p s k (suc e) b = element_runs p s k e (elements_run p s k e b)
 
--- so many steps of all elements
+-- the first s steps of all elements
 unfoldable pub steps_run : Plan → ℕ → ℕ → Sorted → Sorted
 steps_run p k zero b = b
 steps_run p k (suc s) b = elements_run p s k (elements p) (steps_run p k s b)
@@ -107,7 +107,7 @@ steps_run p k (suc s) b = elements_run p s k (elements p) (steps_run p k s b)
 abbrev pub round_runs : Plan → ℕ → Sorted → Sorted
 round_runs p k b = steps_run p k (steps_in_round p) (record { states = b.states; tables = emptied p b.tables })
 
--- so many iterations
+-- the first k iterations
 unfoldable pub rounds_run : Plan → ℕ → Sorted → Sorted
 rounds_run p zero b = b
 rounds_run p (suc k) b = round_runs p k (rounds_run p k b)

@@ -48,7 +48,7 @@ abbrev pub cell_found : Option ℤ → Computed
 cell_found (Some v) = clean v
 cell_found None = record { value = pos 0; slip = read }
 
--- the cell at a place of the state whose cells begin at one and are so many
+-- the cell at a place of the state whose count cells begin at this one
 abbrev pub cell_in : List ℤ → ℕ → ℕ → ℤ → Computed
 cell_in cells at count (pos i) = if nat_lt i count then cell_found (slice_get cells (at + i)) else cell_found None
 cell_in cells at count (negsuc i) = cell_found None

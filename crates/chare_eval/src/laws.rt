@@ -11,8 +11,8 @@ pub fn fold_is_shaped()
     ensures { FoldIsShaped }
 {}
 
-/// The cells of every fold are numbers of 64 bits, for every plan and whatever flips strike. So states of a fold are
-/// such as a checkpoint tells, where no program holds them.
+/// The cells of every fold are numbers of 64 bits, for every plan and whatever flips strike. So a checkpoint can spell
+/// each of its states, those that no program computes included.
 pub fn folds_fit()
     ensures { FoldsFit }
 {}

@@ -60,7 +60,7 @@ impl Loops {
     }
 }
 
-// The number at a place, where so many were written.
+// The number at a place, where the first `written` were written.
 #[tactic(auto, using(crate::proofs::Variables::number_in, crate::proofs::Variables::number_behind))]
 fn number_shown(numbers: &[i64], written: u8, slot: u8) -> i64
     ensures { result ≡ number_at (shown written numbers.now) slot }

@@ -198,7 +198,7 @@ fn cell(cells: &[i64], at: usize) -> Computed
     }
 }
 
-// The cell at a place of the state whose cells begin at one and are so many.
+// The cell at a place of the state whose `count` cells begin at `at`.
 fn cell_at(cells: &[i64], at: u32, count: u32, place: Computed) -> Computed
     ensures { result ≡ after place.slip (cell_in cells.now at count place.value) }
 {

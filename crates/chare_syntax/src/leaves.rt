@@ -377,7 +377,7 @@ pub fn mark_of(tokens: &[Token], mark: Mark) -> Result<(u32, &[Token]), ParseFau
     }
 }
 
-/// Reads a mark that opens a level, where so many may still be opened.
+/// Reads a mark that opens a level, where `levels` may still be opened.
 ///
 /// Errors: `TooDeep` at the mark where none may be opened.
 #[tactic(auto, unfolding(job_tree::specs::Readers::open_at, job_tree::specs::Readers::mark_at))]

@@ -100,7 +100,7 @@ fn record_size(plan: &Plan, e: ElementId) -> usize
     28 + 8 * plan.cells_of(e) as usize
 }
 
-// Appends so many bytes from the front of what is left, or all of it where it is less.
+// Appends `size` bytes from the front of what is left, or all of it where it is less.
 #[tactic(auto, using(crate::proofs::Merging::drop_min))]
 fn take_record(size: usize, bytes: &[u8], end: &mut usize, out: &mut Bytes) -> Result<(), Memory>
     ensures out { OnOk result (out.new ≡ out.old ++ take size (drop end.old bytes.now)) }

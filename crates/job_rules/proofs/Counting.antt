@@ -145,7 +145,7 @@ pub record ArrayCounted (a : ArrayDecl) : Type 0 where
   pub costs : list_all costs_little a.steps ≡ true
   pub parts : list_all few_parts a.steps ≡ true
 
--- these arrays' counts, before which there are n arrays with so many elements, and so many cells in all these
+-- these arrays' counts, behind n arrays that have this many elements and cells in all
 abbrev pub ArraysCounted : ℕ → ℕ → ℕ → List ArrayDecl → Type 0
 ArraysCounted n elements all [] = (n ≤ 8) × (elements ≤ 4096) × (all ≤ 1048576)
 ArraysCounted n elements all (a ∷ more) =

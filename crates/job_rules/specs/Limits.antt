@@ -26,13 +26,13 @@ use Rattle.job_rules.specs.Tables.{cells_written}
 abbrev pub over : LimitKind → ℕ → ℕ → ℕ → Found
 over which most count at = fault_if (nat_lt most count) (Limit which count at)
 
--- ---- an array's states, before which there are n states with so many cells, and so many cells in all elements of the job
+-- ---- an array's states, behind n states of an element with this many cells, where the job's elements have all cells
 
--- the cells of all elements with those of a state, of which an array has so many elements
+-- the cells of all elements with those of a state, in an array of this many elements
 abbrev pub with_cells : ℕ → ℕ → StateDecl → ℕ
 with_cells elements all s = capped (all + capped (cells_written s.cells * elements))
 
--- where so many states have so many cells, and all elements so many
+-- the counts at a state: n states, the cells of an element, the cells of all
 unfoldable pub state_over : ℕ → ℕ → ℕ → Found → ℕ → Found
 state_over n cells all found at = sooner (sooner (sooner found (over States 16 n at)) (over Cells 4096 cells at)) (over AllCells 1048576 all at)
 
@@ -71,7 +71,7 @@ abbrev pub steps_over : ℕ → Found → List StepDecl → Found
 steps_over n found [] = found
 steps_over n found (step ∷ more) = steps_over (suc n) (step_over (suc n) found step) more
 
--- ---- arrays, before which there are n with so many elements, and so many cells in all these
+-- ---- arrays, behind n with this many elements and cells in all
 
 -- rows times columns, as written
 abbrev pub size_written : Num → Option Num → ℕ
@@ -85,7 +85,7 @@ elements_written sizes = size_written sizes.first sizes.second
 abbrev pub own_over : ℕ → Found → ArrayDecl → Found
 own_over all found a = steps_over 0 (members_over 0 (states_over (elements_written a.sizes) 0 0 all found a.states) a.members) a.steps
 
--- where so many arrays have so many elements
+-- the counts at an array: n arrays, their elements
 unfoldable pub array_over : ℕ → ℕ → ℕ → Found → ArrayDecl → Found
 array_over n elements all found a = own_over all (sooner (sooner found (over Arrays 8 n a.at)) (over Elements 4096 elements a.at)) a
 

@@ -15,7 +15,7 @@ use Rattle.job_rules.specs.PlannedMembers.{how_planned}
 use Rattle.job_rules.specs.PlannedNames.{member, range_meant, range_or_none, state_meant}
 use Rattle.job_rules.specs.Numbers.{narrow32, number16}
 
--- an element's index in an array of so many columns, row by row
+-- an element's index in an array of cols columns, row by row
 abbrev pub index_written : ℕ → Num → Option Num → ℕ
 index_written cols first None = narrow32 first.value
 index_written cols first (Some second) = narrow32 (narrow32 (narrow32 first.value * cols) + narrow32 second.value)

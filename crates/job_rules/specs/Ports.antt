@@ -60,7 +60,7 @@ module _ (sent received : List PortUse) where
   members_found port found (m ∷ more) =
       members_found (capped (suc port)) (sooner found (port_fault (declared_at m) (uses_of port sent) (uses_of port received))) more
 
-  -- those of these arrays, before which so many were declared
+  -- those of these arrays, behind the counts of what was declared before
   abbrev pub arrays_found : Counts → Found → List ArrayDecl → Found
   arrays_found c found [] = found
   arrays_found c found (a ∷ more) = arrays_found (counts_after c a.members) (members_found c.ports found a.members) more

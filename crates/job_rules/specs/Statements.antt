@@ -76,7 +76,7 @@ is_number number (Some found) = found == number
 abbrev pub port_use : ℕ → PartAt → ℕ → Bool → PortUse
 port_use port part at nested = record { port = port; step = part.step; at = at; nested = nested }
 
--- a send at this place, of so many values, to a name with this meaning
+-- a send of count values at this place, to a name with this meaning
 abbrev pub entry_named : PartAt → ℕ → Bool → ℕ → Option Meaning → Span → Walk
 entry_named part at nested count (Some (meanings.Entry port number source values)) name n =
     sent_noted (port_use port part at nested)

@@ -25,7 +25,7 @@ use Rattle.job_rules.specs.Tables.{table_at}
 
 -- ---- what a part waits for
 
--- so many names at a port with this meaning, behind a `when` at this place
+-- a number of names at a port with this meaning, behind a `when` at this place
 abbrev pub port_named : PartAt → ℕ → ℕ → Option Meaning → Span → Walk
 port_named part at count (Some (meanings.Entry port number source values)) name n =
     received_noted (port_use port part at false) (noted (fault_if (not (count == values)) (faults.Kind name.at)) n)

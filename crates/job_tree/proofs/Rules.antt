@@ -28,7 +28,7 @@ abbrev pub By : {A : Type 0} → Read A → Read A → Type 0
 By (Ok x) r = r ≡ Ok x
 By (Err s) r = ByWhy s.why s r
 
--- R: which values are spelled by which words, where so many levels are open; at: the reader where so many may still be opened, below k
+-- R: which values are spelled by which words, by the number of open levels; at: the reader, by the number that may still be opened, below k
 pub record Rule {A : Type 0} (k : ℕ) (R : ℕ → A → List Word → Type 0) (on : Kind → Bool) (at : ℕ → Reader A) : Type 0 where
   pub some : (o : ℕ) → Example (R o)
   pub law : (max o n : ℕ) → n < k → n ≡ max - o → Law max (R o) on (at n)

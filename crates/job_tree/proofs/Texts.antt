@@ -262,7 +262,7 @@ last_same (u ∷ us) t (v ∷ vs) z e =
     let p = last_same us t vs z tail in
     (ap (λ x. x ∷ us) head ∙ ap (λ x. v ∷ x) p.0, p.1)
 
--- where reading stops at a token no job goes on with it, with so many levels
+-- where reading stops at a token no job goes on with it, with n levels
 past : (n : ℕ) (seen : List Token) (t : Token) (left : List Token) (s : Stop) → s.left ≡ t ∷ left → text_at n (seen ++ t ∷ left) ≡ Err s → Begins n (seen ++ t ∷ []) → ⊥
 past n seen t left s at e b =
     let here : (seen ++ t ∷ []) ++ left ≡ seen ++ t ∷ left = append_assoc seen (t ∷ []) left in

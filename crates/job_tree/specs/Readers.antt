@@ -61,7 +61,7 @@ shut mark ts = if goes (is_mark mark) ts then Err (deep ts) else Err (wrong ts)
 abbrev pub opened_of : ℕ → Mark → Token → Option Opened
 opened_of n mark t = if is_mark mark t.kind then Some (record { at = t.at; left = n }) else None
 
--- a mark that opens a level, where so many may still be opened
+-- a mark that opens a level, by the number that may still be opened
 unfoldable pub open_at : ℕ → Mark → Reader Opened
 open_at zero mark = shut mark
 open_at (suc n) mark = one (opened_of n mark)

@@ -424,7 +424,7 @@ stmt_with n inner =
 abbrev pub is_stmt : Kind → Bool
 is_stmt k = is_name k || (is_mark marks.If k || (is_mark marks.For k || (is_mark marks.Send k || is_mark marks.Contribute k)))
 
--- the statements of a block that stands where so many levels may be opened
+-- the statements of a block, by the number of levels that may be opened where it stands
 abbrev pub inner : ℕ → Reader (List StmtDecl)
 inner zero = none_deeper
 inner (suc n) = many is_stmt (stmt_with n (inner n))

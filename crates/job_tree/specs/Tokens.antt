@@ -162,7 +162,7 @@ piece_tokens (pieces.Blank len) at = []
 piece_tokens (pieces.Token kind len) at = token kind at ∷ []
 piece_tokens (pieces.Last kind) at = token kind at ∷ []
 
--- a piece has a byte, and no more than so many
+-- a piece has a byte, and no more than most
 abbrev pub Fits : Piece → ℕ → Type 0
 Fits (pieces.Blank len) most = (0 < len) × (len ≤ most)
 Fits (pieces.Token kind len) most = (0 < len) × (len ≤ most)

@@ -44,7 +44,7 @@ found_one P r k (x ∷ more) g h is = by (is_of r k x) refl is (found_one P r k 
     by true own q rest = let same : x ≡ g = same_Some x g q in (subst P same h.0, subst (λ y. is_of r k y ≡ true) same own)
     by false own q rest = rest q
 
--- of each of the first so many, or something else
+-- of each of the first n, or something else
 each_or : (P : ℕ → Type 0) (Q : Type 0) (n : ℕ) → ((i : ℕ) → i < n → P i ⊎ Q) → ((i : ℕ) → i < n → P i) ⊎ Q
 each_or P Q zero each = inl (λ i h. absurd (omega (arith, h)))
 each_or P Q (suc n) each = by (each n (omega arith)) (each_or P Q n (λ i h. each i (omega (arith, h))))

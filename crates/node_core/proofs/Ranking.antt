@@ -14,7 +14,7 @@ use Rattle.node_core.proofs.Seats.{at_last, before_last, counts_length, in_behin
 abbrev pub here : Bool → ℕ → List ℕ
 here b e = cond b (e ∷ []) []
 
--- the first so many elements, and one more
+-- the first k elements, and one more
 members_next : (e : ℕ) (place : List ℕ) (k node j : ℕ) → slice_get place k ≡ Some node → members_from e (take (suc k) place) j ≡ members_from e (take k place) j ++ here (node == j) (e + k)
 members_next e [] k node j h = absurd (let q : None ≡ Some node = h in cc)
 members_next e (x ∷ more) zero node j h = ap (λ y. cond (y == j) (e ∷ []) []) (same_Some x node h) ∙ ap (here (node == j)) (omega arith)
@@ -131,7 +131,7 @@ ranks_next p before (x ∷ more) e =
 
 -- ---- one element more
 
--- the ranks and counts of the first so many elements
+-- the ranks and counts of the first e elements
 pub record Told (p : Plan) (place : List ℕ) (j e : ℕ) (ranks counts : List ℕ) : Type 0 where
   pub ranks_are : ranks ≡ ranks_after p [] (members_from 0 (take e place) j)
   pub counts_are : counts ≡ counts_to p (members_from 0 (take e place) j) (length p.arrays)

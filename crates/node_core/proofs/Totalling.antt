@@ -38,7 +38,7 @@ pub contributions_are : (p : Plan) (lines : List Flip) (k r : ℕ) (es : List �
 contributions_are p lines k r [] = refl
 contributions_are p lines k r (e ∷ more) = ap (λ vs. some_number (contribution_of p lines k r e) ++ vs) (contributions_are p lines k r more)
 
--- so many elements, from one on
+-- n elements, from e on
 abbrev upto : ℕ → ℕ → List ℕ
 upto e zero = []
 upto e (suc n) = e ∷ upto (suc e) n

@@ -97,7 +97,7 @@ abbrev pub parts_cost : Plan → List ℕ → ℕ → List Bool → ℕ → List
 parts_cost p place e done q [] = 0
 parts_cost p place e done q (part ∷ more) = (if is_done done q then 0 else part_cost p place e part) + parts_cost p place e done (suc q) more
 
--- so many steps from one on
+-- n steps, from s on
 abbrev pub steps_cost : Plan → List ℕ → ℕ → ℕ → ℕ → ℕ
 steps_cost p place e s zero = 0
 steps_cost p place e s (suc n) = parts_cost p place e none_done 0 (parts_at p e s) + steps_cost p place e (suc s) n

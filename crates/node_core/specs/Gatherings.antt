@@ -18,7 +18,7 @@ pub record Tallied : Type 0 where
 abbrev pub is_of : ReductionId → ℕ → Gathering → Bool
 is_of r k g = g.reduction.0 == r.0 && g.iteration == k
 
--- nothing gathered yet, of so many members
+-- nothing gathered yet, of this number of members
 abbrev pub gathering : How → ℕ → ReductionId → ℕ → Gathering
 gathering how members r k = record { reduction = r; iteration = k; gathered = record { how = how; given = replicate members None } }
 
@@ -45,7 +45,7 @@ abbrev pub counted : Gathering → ℕ → ℤ → List Gathering → Tallied
 counted new rank value [] = settled (given_to rank value new) []
 counted new rank value (g ∷ more) = if is_of new.reduction new.iteration g then settled (given_to rank value g) more else with_first g (counted new rank value more)
 
--- a contribution of one of so many members
+-- a contribution of one of the members
 unfoldable pub tallied : How → ℕ → ℕ → ReductionId → ℕ → ℤ → List Gathering → Tallied
 tallied how members rank r k value all = if nat_lt rank members then counted (gathering how members r k) rank value all else record { gatherings = all; total = None }
 

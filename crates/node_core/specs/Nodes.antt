@@ -275,7 +275,7 @@ abbrev pub lesser : Option ℕ → ℕ → Option ℕ
 lesser None k = Some k
 lesser (Some l) k = Some (min l k)
 
--- the least iteration that one of these would begin, of so many
+-- the least of the iterations that one of these would begin
 abbrev pub next_begin_of : ℕ → Option ℕ → List Progress → Option ℕ
 next_begin_of iterations least [] = least
 next_begin_of iterations least (o ∷ more) = next_begin_of iterations (if begins iterations o then lesser least o.done else least) more

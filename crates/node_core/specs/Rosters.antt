@@ -32,7 +32,7 @@ abbrev pub ranks_after : Plan → List ℕ → List ℕ → List ℕ
 ranks_after p before [] = []
 ranks_after p before (e ∷ more) = count_in p (place_of p e).array before ∷ ranks_after p (before ++ e ∷ []) more
 
--- for each of the first so many arrays how many of these elements belong to it
+-- for each of the first arrays how many of these elements belong to it
 abbrev pub counts_to : Plan → List ℕ → ℕ → List ℕ
 counts_to p es zero = []
 counts_to p es (suc a) = counts_to p es a ++ count_in p a es ∷ []
@@ -41,12 +41,12 @@ counts_to p es (suc a) = counts_to p es a ++ count_in p a es ∷ []
 abbrev pub shares : Plan → List ℕ → ℕ → ℕ → Bool
 shares p place array j = nat_lt 0 (count_in p array (members place j))
 
--- those of the first so many nodes on which elements of an array live
+-- those of the first j nodes on which elements of an array live
 abbrev pub nodes_with : Plan → List ℕ → ℕ → ℕ → List ℕ
 nodes_with p place array zero = []
 nodes_with p place array (suc j) = nodes_with p place array j ++ (if shares p place array j then j ∷ [] else [])
 
--- for each of the first so many arrays
+-- for each of the first a arrays
 abbrev pub sharers_to : Plan → List ℕ → ℕ → ℕ → List (List ℕ)
 sharers_to p place nodes zero = []
 sharers_to p place nodes (suc a) = sharers_to p place nodes a ++ nodes_with p place a nodes ∷ []

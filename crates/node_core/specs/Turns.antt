@@ -52,7 +52,7 @@ is_step ready_as.AtTop = false
 abbrev pub can_run : Plan → ℕ → Progress → Bool
 can_run p limit o = if is_none o.step then nat_lt o.done limit && nat_lt o.done p.iterations else is_step (ready p o)
 
--- it is before one of so many iterations
+-- it is before one of the iterations
 abbrev pub begins : ℕ → Progress → Bool
 begins iterations o = is_none o.step && nat_lt o.done iterations
 

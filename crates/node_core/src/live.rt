@@ -210,7 +210,7 @@ pub(crate) fn first_running(plan: &Plan, limit: u64, objects: &[Object]) -> Opti
     None
 }
 
-// The least iteration that one of these would begin, of so many.
+// The least of the `iterations` that one of these would begin.
 pub(crate) fn next_begin(iterations: u64, objects: &[Object]) -> Option<u64>
     ensures { result ≡ next_begin_of iterations None objects.now }
 {

@@ -145,7 +145,7 @@ pub(crate) fn can_run(plan: &Plan, limit: u64, object: &Object) -> bool
     }
 }
 
-// Whether it is before one of so many iterations.
+// Whether it is before one of the `iterations`.
 pub(crate) fn begins(iterations: u64, object: &Object) -> bool
     ensures { result ≡ begins iterations object.now }
 {

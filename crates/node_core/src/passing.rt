@@ -105,7 +105,7 @@ fn pass_one<M: Placement>(
     }
 }
 
-// The node of an element of so many, 0 where there is no such element.
+// The node of an element, 0 where it is none of the `elements`.
 fn node_of<M: Placement>(map: &M, elements: u32, e: ElementId) -> u16
     requires { length (M.place map.now) ≡ elements }
     ensures { result ≡ node_at (M.place map.now) e.0 }

@@ -82,7 +82,7 @@ impl Tally {
     }
 }
 
-// Takes a contribution of one of so many members. Where it is the last, what all contributed is gathered no longer,
+// Takes the contribution of one of `members` members. Where it is the last, what all contributed is gathered no longer,
 // and what they make is the answer.
 #[tactic(auto, using(crate::proofs::Counting::counted_by_place), unfolding(crate::specs::Gatherings::tallied))]
 pub(crate) fn count_in(

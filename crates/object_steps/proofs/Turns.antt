@@ -28,7 +28,7 @@ port_same a b e = cc
 
 -- ---- sets of parts
 
--- all of the first so many, by each
+-- all of the first n, by each
 pub all_of_each : (done : List Bool) (n : ℕ) → ((i : ℕ) → i < n → is_done done i ≡ true) → all_done done n ≡ true
 all_of_each done zero each = refl
 all_of_each done (suc n) each = and_from (all_done done n) (is_done done n) (all_of_each done n (λ i h. each i (omega (arith, h)))) (each n (omega arith))

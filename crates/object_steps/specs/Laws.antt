@@ -44,7 +44,7 @@ pub record FollowsOn (p : Plan) (lines : List Flip) (o : Progress) : Type 0 wher
   pub receives : (key : RefKey) (payload : Payload) → o.done ≤ key.iteration → IsMessage p lines o.element.0 key payload → Follows p lines (mailed o key payload)
 
 pub record ObjectsFollow : Type 0 where
-  -- from the opening, and from the definition's cells after so many iterations
+  -- from the opening, and from the definition's cells after k iterations
   pub starts : (p : Plan) (lines : List Flip) (e : ℕ) → e < elements p → Follows p lines (started p e (start_of p e) 0)
   pub resumes : (p : Plan) (lines : List Flip) (k e : ℕ) → e < elements p → k ≤ p.iterations → Follows p lines (started p e (cells_between p lines k e) k)
   pub on : (p : Plan) (lines : List Flip) (o : Progress) → Follows p lines o → FollowsOn p lines o

@@ -58,7 +58,7 @@ sent_from p e n (entry ∷ more) = not (entry.owner == (place_of p e).array && i
 unfoldable pub is_surrounded : Plan → ℕ → Bool
 is_surrounded p e = sent_from p e 0 p.entries
 
--- whether the first so many parts are done
+-- whether the first n parts are done
 abbrev pub all_done : List Bool → ℕ → Bool
 all_done parts zero = true
 all_done parts (suc n) = all_done parts n && is_done parts n

@@ -19,7 +19,7 @@ made_at j (m ∷ more) = if m.node == j then m.value ∷ made_at j more else mad
 abbrev pub node_total : How → List Made → ℕ → Option ℤ
 node_total how all j = joined_to how None (made_at j all)
 
--- the totals of the first so many nodes, in order
+-- the totals of the first n nodes, in order
 abbrev pub node_totals : How → List Made → ℕ → List (Option ℤ)
 node_totals how all zero = []
 node_totals how all (suc n) = node_totals how all n ++ (node_total how all n ∷ [])

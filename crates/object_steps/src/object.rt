@@ -49,7 +49,7 @@ impl Model for Object {
 }
 
 impl Object {
-    /// The object of an element that has completed so many iterations: at its top, with no message. It takes no
+    /// The object of an element that has completed `done` iterations: at its top, with no message. It takes no
     /// memory.
     pub fn start(alloc: Global, plan: &Plan, e: ElementId, cells: Cells, done: u64) -> Object
         requires element { e.0 < elements plan.now }
@@ -259,7 +259,7 @@ fn parts_at(plan: &Plan, e: ElementId, place: Place, step: u8) -> &[Part]
     step.parts.as_slice()
 }
 
-// Whether the first so many parts are done.
+// Whether the first `count` parts are done.
 fn all_done(parts: &[bool], count: u8) -> bool
     ensures { result ≡ all_done parts.now count }
 {

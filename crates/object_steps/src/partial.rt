@@ -34,7 +34,7 @@ impl Model for Partial {
 }
 
 impl Partial {
-    /// The contributions of so many members, none of which came yet.
+    /// The contributions of `members` members, none of which came yet.
     ///
     /// `Memory`: an allocation was refused.
     #[tactic(auto, using(crate::proofs::Missing::all_missing))]
@@ -77,7 +77,7 @@ impl Partial {
     }
 }
 
-// No contribution of so many members.
+// No contribution of any of `members` members.
 fn nothing_given(alloc: Global, members: u32) -> Result<Vec<Option<i64>>, Memory>
     ensures { IfOk result (λ given. given.items ≡ replicate members None) }
 {

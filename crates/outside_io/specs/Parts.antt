@@ -2,7 +2,7 @@
 use Rattle.std.specs.Prelude.{ℕ, ◌<◌, ◌≤◌, List, Option, length, take}
 use Rattle.std.specs.Io.KnownBytes.{Consumes, Appends}
 
--- bytes were taken from the front, and no more than so many
+-- bytes were taken from the front, and no more than most
 abbrev pub ConsumesPart : Option (List ℕ) → Option (List ℕ) → ℕ → Type 0
 ConsumesPart old new most = (bytes : List ℕ) × (length bytes ≤ most) × Consumes old new bytes
 

@@ -102,7 +102,7 @@ pub fn read_up_to<S: Source>(
     Ok(all)
 }
 
-// One take of at most so many bytes, put at the end.
+// One take of at most `most` bytes, put at the end.
 fn take_some<S: Source>(
     source: &mut S,
     buf: &mut [u8],

@@ -27,7 +27,7 @@ pub struct MemorySink {
 }
 
 impl MemorySink {
-    /// An empty sink with room for so many bytes, which is taken at once.
+    /// An empty sink with room for `room` bytes, which is taken at once.
     pub fn start(alloc: Global, room: usize, failing: Calls) -> Result<MemorySink, Memory>
         ensures bytes { IfOk result (λ s. s.bytes.items ≡ []) }
         ensures room { IfOk result (λ s. s.room ≡ room) }

@@ -38,7 +38,7 @@ is_first (Some first) done = done == first
 abbrev pub is_timely : Plan → Option ℕ → List ℕ → Bool
 is_timely p first bytes = nat_le (done_in bytes) p.iterations && is_first first (done_in bytes)
 
--- none, or of a kind from 1 to 3, of one of so many steps, in one of so many iterations
+-- none, or of a kind from 1 to 3, of one of the steps, in a completed iteration
 abbrev pub is_slip : ℕ → ℕ → ℕ → ℕ → ℕ → Bool
 is_slip steps done kind step iteration =
     if kind == 0 then step == 0 && iteration == 0 else nat_le kind 3 && nat_lt step steps && nat_lt iteration done
@@ -91,7 +91,7 @@ abbrev pub first_done : ℕ → List Cells → Option ℕ
 first_done done [] = None
 first_done done (cells ∷ more) = Some done
 
--- The first so many elements' records are as they should be, and the rest of the bytes begins behind them.
+-- The records of the elements in front are as they should be, and the rest of the bytes begins behind them.
 pub record Reaches (p : Plan) (bytes : List ℕ) (done : ℕ) (front : List Cells) (rest : List ℕ) : Type 0 where
   pub spelled : bytes ≡ head (elements p) ++ (records_from p done 0 front ++ rest)
   pub lawful : LawfulFrom p done 0 front

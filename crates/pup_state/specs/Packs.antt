@@ -8,7 +8,7 @@ use Rattle.chare_base.specs.declared.plan.Plan.{Plan}
 use Rattle.chare_base.specs.Elements.{elements, cells_of, steps_of}
 use Rattle.pup_state.specs.Spelling.{pack, record_spelling, size_of}
 
--- a slip of one of so many steps, in a completed iteration
+-- a slip of one of the steps, in a completed iteration
 pub record Noted (steps done : ℕ) (slip : Slip) : Type 0 where
   pub some : 1 ≤ slip.kind
   pub kinds : slip.kind ≤ 3

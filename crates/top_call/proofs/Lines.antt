@@ -37,7 +37,7 @@ line_last text is = last_by text (nat_lt (position_or_len ends text) (length tex
 
 -- ---- the line `faults`
 
--- what is so many bytes further on
+-- what is found, this many bytes further on
 abbrev pub on : ℕ → Option ℕ → Option ℕ
 on at there = option_map (λ k. at + k) there
 

@@ -42,7 +42,7 @@ total_sent r x j m = to_slot r m (letters.Total (plain_stamp r) (reduction_id x)
 abbrev at_node : ℕ → ℕ → ℕ → ℕ → List Sent
 at_node r x j m = share_sent r x j m ∷ total_sent r x j m ∷ []
 
--- of both replicas' nodes, of so many reductions, in the iterations below k
+-- of both replicas' nodes, of the reductions, in the iterations below k
 abbrev pub over_sent : ℕ → ℕ → ℕ → List Sent
 over_sent nodes reductions k = listed (λ r. listed (λ x. listed (λ j. listed (λ m. at_node r x j m) nodes) k) reductions) 2
 

@@ -277,7 +277,7 @@ module _ (starts : StartIsSound) (begins : StartIsAfloat) (keeps : EveryEventKee
   Later s o n chooser w = (i : ℕ) (event : Event) → Sound s o (happens s w event) → ((happens s w event).conductor.outcome ≡ None → Afloat s (happens s w event)) → world_left s (happens s w event) ≤ n →
       (reached s (happens s w event) (picked s n (goes_on chooser i) (happens s w event))).conductor.outcome ≡ None → ⊥
 
-  -- so many turns end it
+  -- what is left bounds the turns that end it
   never_longer : (s : Setting) (o : Options) (plain : IsPlain s o) (turns : ℕ) (chooser : Chooser) (w : WorldState) → Sound s o w → (w.conductor.outcome ≡ None → Afloat s w) → world_left s w ≤ turns → (reached s w (picked s turns chooser w)).conductor.outcome ≡ None → ⊥
   never_longer s o plain zero chooser w sound afloat few h = let now = world_is s w h in omega (arith, few, now)
   never_longer s o plain (suc n) chooser w sound afloat few h = by (chosen_of chooser (ready_actors s w)) refl h (λ i event. never_longer s o plain n (goes_on chooser i) (happens s w event))

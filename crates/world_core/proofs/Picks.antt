@@ -123,7 +123,7 @@ module _ (p : Plan) (nodes : ℕ) (w : WorldState) where
           beyond last (suc n) i over ∙ ap (λ j. first_from j (suc n)) same ∙ ap (first_from (suc last)) left
       by false low rest = before (acts i) low ∙ rest (ltb-false last i low) ∙ ap (first_from (suc last)) (sym more)
 
-  -- the first above a number, of so many actors
+  -- the first above a number, of count actors
   pub around : (last count behind : ℕ) → (suc last ≤ count → behind ≡ suc last) → (count ≤ last → behind ≡ count) → first_above last (all_from 0 count) ≡ first_from behind (count - behind)
   around last count behind less more = let none_before : (0 + count) - suc last ≡ count - suc last = omega arith in above last count 0 (omega arith) ∙ ap (first_from (suc last)) none_before ∙ by (nat_lt last count) refl
     where

@@ -8,7 +8,7 @@ use Rattle.iteration_agree.specs.declared.round.Taking.{Taking}
 use Rattle.world_core.specs.Steps.{Renews}
 use Rattle.world_core.specs.Worlds.{SlotState}
 
--- the first so many of a list are what a function makes of them
+-- the first i of a list are what a function makes of them
 abbrev pub renewed_to : {A : Type 0} → (A → A) → ℕ → List A → List A
 renewed_to f zero xs = xs
 renewed_to f (suc i) [] = []

@@ -45,7 +45,7 @@ below_same f g (suc n) same = let rest = below_same f g n (λ e less. same e (om
 abbrev pub one_if : Bool → ℕ
 one_if b = cond b 1 0
 
--- so many numbers lie within a range
+-- size numbers lie within a range of this size
 in_range : (first size n : ℕ) → first + size ≤ n → sum_below (λ e. one_if (nat_le first e && nat_lt e (first + size))) n ≡ size
 in_range first size n = by n
   where

@@ -28,7 +28,7 @@ abbrev pub width_below : Plan → ℕ → ℕ
 width_below p zero = 0
 width_below p (suc e) = width_below p e + width_of p e
 
--- No run of so many fault lines, on so many nodes of each replica, has more events.
+-- No run of a script of this many fault lines, on this many nodes of each replica, has more events.
 unfoldable pub turns_bound : Plan → ℕ → ℕ → ℕ
 turns_bound p lines nodes =
     (32 * (lines + 1) * (p.iterations + 130)) * (width_below p (elements p) + (nodes + nodes) * length p.reductions + (nodes + nodes) * (nodes + nodes))

@@ -31,7 +31,7 @@ use Rattle.world_core.specs.Worlds.{Setting, SlotState, WorldState, enabled, hap
 
 -- ---- looks
 
--- how many looks it takes until place i of so many is looked at, that look counted
+-- how many looks it takes until place i is looked at, that look counted
 abbrev pub looks_to : ℕ → ℕ → ℕ → ℕ
 looks_to places next i = if nat_le next i then suc (i - next) else suc (places + i - next)
 
@@ -158,7 +158,7 @@ CanHappen s w (event ∷ more) = (is_enabled s.plan s.nodes w event ≡ true) ×
 abbrev pub NoRunIsLonger : Type 0
 NoRunIsLonger = (s : Setting) (o : Options) (all : List Event) → IsPlain s o → CanHappen s (opening_world s o) all → length all ≤ turns_bound s.plan 0 s.nodes
 
--- However a chooser picks, so many turns end the run as what is left at the start.
+-- However a chooser picks, no more turns end the run than what is left at the start.
 abbrev pub EveryScheduleEnds : Type 0
 EveryScheduleEnds = (s : Setting) (o : Options) (chooser : Chooser) (turns : ℕ) → IsPlain s o → world_left s (opening_world s o) ≤ turns →
     IsSome (reached s (opening_world s o) (picked s turns chooser (opening_world s o))).conductor.outcome

@@ -122,7 +122,7 @@ pub record IsPlaced (s : Setting) : Type 0 where
   pub count : length s.place ≡ elements s.plan
   pub covers : Covers s.place s.nodes
 
--- the options are for so many nodes
+-- the options are for the setting's nodes
 pub record IsFor (s : Setting) (o : Options) : Type 0 where
   pub nodes : o.nodes ≡ s.nodes
   pub few : s.nodes ≤ 32

@@ -99,7 +99,7 @@ pub fn run<M: Placement>(
     Ok(world)
 }
 
-// Takes the events that a chooser picks, at most so many.
+// Takes the events that a chooser picks, at most `turns` of them.
 fn go<M: Placement>(
     alloc: Global,
     plan: &Plan,
@@ -176,7 +176,7 @@ fn next_round<M: Placement>(
     }
 }
 
-// The actor behind one, of so many.
+// The actor behind the last one, of `actors`.
 fn behind(last: usize, actors: usize) -> usize
     ensures next { last < actors → result ≡ last + 1 }
     ensures none { actors ≤ last → result ≡ actors }

@@ -209,7 +209,7 @@ fn begin_due(plan: &Plan, node: &Node, standing: &Standing, seats: &SeatStates) 
     begin_if(next, standing)
 }
 
-// Whether the top is the least iteration that one of so many would begin.
+// Whether the top is the least of the `iterations` that an object would begin.
 fn begins_by(behind: usize, level: usize, top: u64, iterations: u64) -> bool
     ensures { result ≡ (behind == 0 && nat_lt 0 level && nat_lt top iterations) }
 {

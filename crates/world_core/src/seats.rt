@@ -340,7 +340,7 @@ fn readiness_at(plan: &Plan, top: u64, node: &Node, seat: usize) -> Readiness
     }
 }
 
-// Between two iterations, so many of which are completed.
+// Between two iterations, `done` of which are completed.
 fn between(plan: &Plan, top: u64, done: u64) -> Readiness
     ensures { result ≡ (if nat_lt done plan.now.iterations && nat_lt done top then Readiness.Behind else (if done == top then Readiness.Level else Readiness.Past)) }
 {

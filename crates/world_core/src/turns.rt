@@ -6,7 +6,7 @@ ghost use Rattle.world_core.specs.Bounds.{capped, entries_of, parts_below, reduc
 
 use chare_base::plan::{ElementId, Entry, Plan, Reduction};
 
-/// The number of turns of a schedule, for a script of so many fault lines and so many nodes of each replica; where it
+/// The number of turns of a schedule, for a script of `lines` fault lines and `nodes` nodes of each replica; where it
 /// is greater than 64 bits hold, the greatest number that they do.
 #[tactic(auto, unfolding(crate::specs::Bounds::turns_bound))]
 pub fn turns(plan: &Plan, lines: usize, nodes: u16) -> u64

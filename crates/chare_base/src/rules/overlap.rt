@@ -178,7 +178,7 @@ fn reads(e: &Expr, range: Range) -> bool
     }
 }
 
-// Whether a range has a cell in common with so many cells from one on.
+// Whether a range has a cell in common with the `count` cells from `at` on.
 fn meet(range: Range, at: u32, count: u32) -> bool
     ensures { result ≡ meet range (range_of at count) }
 {

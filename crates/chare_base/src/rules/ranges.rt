@@ -197,7 +197,7 @@ fn block_in_range(states: &[State], values: usize, block: &[Stmt], loops: usize)
     true
 }
 
-// Whether a statement inside so many loops names what is there alone.
+// Whether a statement inside `loops` loops names what is there alone.
 #[cycle(statements)]
 fn stmt_in_range(states: &[State], values: usize, stmt: &Stmt, loops: usize) -> bool
     ensures { result ≡ stmt_in_range states.now values stmt.now loops }
@@ -239,7 +239,7 @@ fn all_in_range(states: &[State], values: usize, loops: usize, expressions: &[Ex
         .all(|e| value_in_range(states, values, loops, e))
 }
 
-// Whether an expression of a part, inside so many loops, reads what is there alone.
+// Whether an expression of a part, inside `loops` loops, reads what is there alone.
 #[tactic(auto, unfolding(crate::specs::Ranges::value_in_range))]
 fn value_in_range(states: &[State], values: usize, loops: usize, e: &Expr) -> bool
     ensures { result ≡ value_in_range states.now values loops e.now }
@@ -247,7 +247,7 @@ fn value_in_range(states: &[State], values: usize, loops: usize, e: &Expr) -> bo
     expr_in_range(states, part_scope(values, loops), e)
 }
 
-// What a part's expressions may read inside so many loops.
+// What a part's expressions may read inside `loops` loops.
 fn part_scope(values: usize, loops: usize) -> Scope
     ensures { result ≡ part_scope values loops }
 {
@@ -259,7 +259,7 @@ fn part_scope(values: usize, loops: usize) -> Scope
     }
 }
 
-// Whether an entry is sent by this array's elements, with so many values.
+// Whether an entry is sent by this array's elements, with `count` values.
 fn sent_from(entries: &[Entry], array: usize, count: usize, entry: EntryId) -> bool
     ensures { result ≡ sent_from array count (slice_get entries.now entry.0) }
 {

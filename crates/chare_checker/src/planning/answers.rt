@@ -83,7 +83,7 @@ fn element_in(element: Coordinates, array: &Array) -> u32
     array.first.saturating_add(index(array.cols, element))
 }
 
-// An element's index in an array of so many columns, row by row.
+// An element's index in an array of `cols` columns, row by row.
 fn index(cols: u32, element: Coordinates) -> u32
     ensures { result ≡ index_written cols element.first element.second }
 {
