@@ -18,3 +18,4 @@ pub mod Strikes
 pub mod Totals
 pub mod Turns
 pub mod Variables
+pub mod Widths

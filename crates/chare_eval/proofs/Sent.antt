@@ -137,7 +137,7 @@ abbrev pub Aimed : Plan → ℕ → Outgoing → Type 0
 Aimed p e (Parcel entry to payload) = target_of p entry.0 e ≡ Some to
 Aimed p e (Contribution reduction value) = Unit {0}
 
-all_append : (P : Outgoing → Type 0) (ls ms : List Outgoing) → AllByRecursion P ls → AllByRecursion P ms → AllByRecursion P (ls ++ ms)
+pub all_append : (P : Outgoing → Type 0) (ls ms : List Outgoing) → AllByRecursion P ls → AllByRecursion P ms → AllByRecursion P (ls ++ ms)
 all_append P [] ms a b = b
 all_append P (l ∷ ls) ms a b = (a.0, all_append P ls ms a.1 b)
 

@@ -5,13 +5,17 @@ use Rattle.std.specs.List.{AllByRecursion}
 use Rattle.std.specs.Option.{option_map_or}
 use Rattle.chare_base.specs.declared.cells.Cells.{Cells}
 use Rattle.chare_base.specs.declared.cells.Slip.{Slip}
+use Rattle.chare_base.specs.declared.message.EntryId.{EntryId}
+use Rattle.chare_base.specs.declared.message.Payload.{Payload}
 use Rattle.chare_base.specs.declared.message.Port.TheVariants as ports
+use Rattle.chare_base.specs.declared.message.ReductionId.{ReductionId}
 use Rattle.chare_base.specs.declared.plan.ElementId.{ElementId}
+use Rattle.chare_base.specs.declared.plan.Entry.{Entry}
 use Rattle.chare_base.specs.declared.plan.Part.{Part}
 use Rattle.chare_base.specs.declared.plan.Plan.{Plan}
 use Rattle.chare_base.specs.declared.plan.Reduction.{Reduction}
 use Rattle.chare_base.specs.Elements.{elements, parts_at, place_of, steps_of}
-use Rattle.chare_base.specs.Entries.{first_of, reduction_of, target_of}
+use Rattle.chare_base.specs.Entries.{entry_of, first_of, reduction_of, target_of}
 use Rattle.chare_base.specs.Flip.{Flip}
 use Rattle.chare_base.specs.Ports.{entry_port, sending_step, total_port}
 use Rattle.chare_base.specs.Shape.{Shaped}
@@ -140,3 +144,11 @@ AnySent P (o ∷ more) = P o ⊎ AnySent P more
 abbrev pub StepsSend : Type 0
 StepsSend = (p : Plan) (lines : List Flip) (k s x e : ℕ) (t : ElementId) → e < elements p → sending_step (entry_port x) (steps_of p e) ≡ Some s →
     target_of p x e ≡ Some t → AnySent (SentTo p x t) (sent_in p lines k s e)
+
+-- ---- how many values come
+
+-- What an element finds at an entry has as many values as the entry says, and a total is one value.
+pub record MessagesFit : Type 0 where
+  pub values : (p : Plan) (lines : List Flip) (k e : ℕ) (x : EntryId) (entry : Entry) (payload : Payload) → entry_of p x.0 ≡ Some entry →
+      message_to p lines k (ports.Entry x) e ≡ Some payload → payload.count ≡ entry.values
+  pub one : (p : Plan) (lines : List Flip) (k e : ℕ) (r : ReductionId) (payload : Payload) → message_to p lines k (ports.Total r) e ≡ Some payload → payload.count ≡ 1

@@ -10,7 +10,7 @@ ghost use Rattle.chare_eval.specs.Value.{least_kind, write};
 
 use crate::arithmetic::{WRITE, least_kind};
 use crate::effects::{Effects, Outgoing};
-use crate::value::{Computed, Scene, value};
+use crate::value::{Computed, Scene, operand};
 use chare_base::cells::{Cells, Slip};
 use chare_base::expression::Expr;
 use chare_base::memory::Memory;
@@ -77,10 +77,38 @@ pub fn run_part(
     ensures sent { OnOk result (effects.new ≡ effects.old ++ (block_runs plan.now e.0 step iteration block.now payload.now (quiet cells.old)).sent) }
     ensures err { OnErr result ((cells.new ≡ cells.old) × (effects.new ≡ effects.old)) }
 {
-    let mut scene = Scene::new();
+    let sent = &mut effects.all;
+    let scene = &mut effects.scene;
+    run_with(
+        plan, e, place, step, iteration, cols, block, payload, scene, cells, sent,
+    )
+}
+
+// The same in a scene that is there, whatever it was before.
+#[tactic(auto, unfolding(crate::specs::Block::scene_of))]
+fn run_with(
+    plan: &Plan,
+    e: ElementId,
+    place: Place,
+    step: u8,
+    iteration: u64,
+    cols: u32,
+    block: &[Stmt],
+    payload: &Payload,
+    scene: &mut Scene,
+    cells: &mut Cells,
+    sent: &mut Vec<Outgoing>,
+) -> Result<(), Memory>
+    requires element { e.0 < elements plan.now }
+    requires place { place ≡ place_of plan.now e.0 }
+    requires cols { cols ≡ cols_at plan.now e.0 }
+    ensures cells { OnOk result (cells.new ≡ (block_runs plan.now e.0 step iteration block.now payload.now (quiet cells.old)).cells) }
+    ensures sent { OnOk result (sent.new.items ≡ sent.old.items ++ (block_runs plan.now e.0 step iteration block.now payload.now (quiet cells.old)).sent) }
+    ensures err { OnErr result ((cells.new ≡ cells.old) × (sent.new.items ≡ sent.old.items)) }
+{
     scene.values = payload.values;
     run_in(
-        plan, e, place, step, iteration, cols, block, &mut scene, cells, effects,
+        plan, e, place, step, iteration, cols, block, scene, cells, sent,
     )
 }
 
@@ -95,16 +123,16 @@ pub(crate) fn run_in(
     block: &[Stmt],
     scene: &mut Scene,
     cells: &mut Cells,
-    effects: &mut Effects,
+    sent: &mut Vec<Outgoing>,
 ) -> Result<(), Memory>
     requires element { e.0 < elements plan.now }
     requires place { place ≡ place_of plan.now e.0 }
     requires cols { cols ≡ cols_at plan.now e.0 }
     ensures cells { OnOk result (cells.new ≡ (block_runs plan.now e.0 step iteration block.now (with_values scene.old.values) (quiet cells.old)).cells) }
-    ensures sent { OnOk result (effects.new ≡ effects.old ++ (block_runs plan.now e.0 step iteration block.now (with_values scene.old.values) (quiet cells.old)).sent) }
-    ensures err { OnErr result ((cells.new ≡ cells.old) × (effects.new ≡ effects.old)) }
+    ensures sent { OnOk result (sent.new.items ≡ sent.old.items ++ (block_runs plan.now e.0 step iteration block.now (with_values scene.old.values) (quiet cells.old)).sent) }
+    ensures err { OnErr result ((cells.new ≡ cells.old) × (sent.new.items ≡ sent.old.items)) }
 {
-    effects.all.reserve(block.len())?;
+    sent.reserve(block.len())?;
     enter(scene, plan, e, place.index, cols, iteration);
     let mut kind = 0;
     run_top(
@@ -115,7 +143,7 @@ pub(crate) fn run_in(
         scene,
         &mut cells.numbers,
         &mut kind,
-        &mut effects.all,
+        sent,
     );
     note_slip(&mut cells.slip, kind, step, iteration);
     Ok(())
@@ -223,7 +251,7 @@ fn run_top(
                 reduction,
                 value: e,
             } => {
-                let computed = value(e, scene, cells.as_slice());
+                let computed = operand(e, scene, cells.as_slice());
                 *slip = least_kind(*slip, computed.slip);
                 sent.push(Outgoing::Contribution {
                     reduction: *reduction,
@@ -268,7 +296,7 @@ fn filled(values: &[Expr], scene: &Scene, cells: &[i64], slip: &mut u8) -> [i64;
 {
     let mut filled = [0; 8];
     for (i, e) in values.iter().enumerate() {
-        let computed = value(e, scene, cells);
+        let computed = operand(e, scene, cells);
         *slip = least_kind(*slip, computed.slip);
         put(&mut filled, i, computed.value);
     }
@@ -301,7 +329,7 @@ fn run_one(stmt: &Stmt, scene: &mut Scene, cells: &mut Items<i64>, slip: &mut u8
 {
     match stmt {
         Stmt::Set { cell, value: e } => {
-            let computed = value(e, scene, cells.as_slice());
+            let computed = operand(e, scene, cells.as_slice());
             write(cells, slip, *cell as usize, computed);
         }
         Stmt::SetAt {
@@ -310,13 +338,13 @@ fn run_one(stmt: &Stmt, scene: &mut Scene, cells: &mut Items<i64>, slip: &mut u8
             place,
             value: e,
         } => {
-            let place = value(place, scene, cells.as_slice());
-            let computed = value(e, scene, cells.as_slice());
+            let place = operand(place, scene, cells.as_slice());
+            let computed = operand(e, scene, cells.as_slice());
             *slip = least_kind(*slip, place.slip);
             write_in(cells, slip, *at, *count, place.value, computed);
         }
         Stmt::If { test, yes, no } => {
-            let test = value(test, scene, cells.as_slice());
+            let test = operand(test, scene, cells.as_slice());
             *slip = least_kind(*slip, test.slip);
             if test.value != 0 {
                 run_all(yes.as_slice(), scene, cells, slip);

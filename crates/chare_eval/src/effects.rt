@@ -2,6 +2,7 @@
 
 ghost use Rattle.std.specs.Prelude.{◌≡◌, ◌==◌, length, []};
 
+use crate::value::Scene;
 use chare_base::message::{EntryId, Payload, ReductionId};
 use chare_base::plan::ElementId;
 use std::alloc::Global;
@@ -27,6 +28,8 @@ pub enum Outgoing {
 #[derive(Drop)]
 pub struct Effects {
     pub(crate) all: Vec<Outgoing>,
+    // Where the next block's expressions are evaluated. It is built once, since a scene is large beside a block.
+    pub(crate) scene: Scene,
 }
 
 impl Model for Effects {
@@ -45,6 +48,7 @@ impl Effects {
     {
         Effects {
             all: Vec::new(alloc),
+            scene: Scene::new(),
         }
     }
 

@@ -3,7 +3,7 @@
 
 ghost use Rattle.chare_eval.specs.Laws.{FoldIsShaped, FoldsFit, SlipsAreNoted, EarlierFlipsDecide, StrikesAreLocal, StepsFollow};
 ghost use Rattle.chare_eval.specs.Later.{LaterFlipsDecide, LaterFlipsDecideInside};
-ghost use Rattle.chare_eval.specs.Laws.{PartsRunInAnyOrder, TotalsAreTrue, StepsSend};
+ghost use Rattle.chare_eval.specs.Laws.{MessagesFit, PartsRunInAnyOrder, TotalsAreTrue, StepsSend};
 
 /// The states of every fold, with or without flips, are one for each element of the plan, each with as many cells as
 /// the element's states have. So a fold's states can be packed and compared, and given as the states of a run.
@@ -66,4 +66,10 @@ pub fn totals_are_true()
 /// one.
 pub fn steps_send()
     ensures { StepsSend }
+{}
+
+/// Each message that an element finds at an entry, from an element or from beyond an edge, has as many values as the
+/// entry says, and each total has one. So whatever value of a message a part names was sent to it.
+pub fn messages_fit()
+    ensures { MessagesFit }
 {}

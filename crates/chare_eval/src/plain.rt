@@ -11,7 +11,7 @@ ghost use Rattle.chare_eval.specs.Stage.{parts_run, step_of};
 ghost use Rattle.chare_eval.specs.Tables.{box_of, elements_run, round_runs, rounds_run, steps_run, tables_of};
 
 use crate::block::run_in;
-use crate::effects::Effects;
+use crate::effects::Outgoing;
 use crate::laws::fold_is_shaped;
 use crate::start::start_cells;
 use crate::tables::Mail;
@@ -33,13 +33,13 @@ pub fn plain_run(alloc: Global, plan: &Plan) -> Result<CellsList, Memory>
     fold_is_shaped();
     let mut all = start_all(alloc, plan)?;
     let mut mail = Mail::new(alloc, plan)?;
-    let mut effects = Effects::new(alloc);
+    let mut sent = Vec::new(alloc);
     run_rounds(
         plan,
         all.as_mut_slice(),
         &mut mail,
         &mut Scene::new(),
-        &mut effects,
+        &mut sent,
     )?;
     Ok(CellsList::from_vec(all))
 }
@@ -64,13 +64,13 @@ fn run_rounds(
     all: &mut [Cells],
     mail: &mut Mail,
     scene: &mut Scene,
-    effects: &mut Effects,
+    sent: &mut Vec<Outgoing>,
 ) -> Result<(), Memory>
     requires { length all.old ≡ elements plan.now }
     ensures { OnOk result (record { states = all.new; tables = tables_of mail.new } ≡ rounds_run plan.now plan.now.iterations (record { states = all.old; tables = tables_of mail.old })) }
 {
     for k in 0..plan.iterations {
-        run_round(plan, k, all, mail, scene, effects)?;
+        run_round(plan, k, all, mail, scene, sent)?;
     }
     Ok(())
 }
@@ -82,13 +82,13 @@ fn run_round(
     all: &mut [Cells],
     mail: &mut Mail,
     scene: &mut Scene,
-    effects: &mut Effects,
+    sent: &mut Vec<Outgoing>,
 ) -> Result<(), Memory>
     requires { length all.old ≡ elements plan.now }
     ensures { OnOk result (record { states = all.new; tables = tables_of mail.new } ≡ round_runs plan.now k (record { states = all.old; tables = tables_of mail.old })) }
 {
     mail.begin(plan)?;
-    run_steps(plan, k, all, mail, scene, effects)
+    run_steps(plan, k, all, mail, scene, sent)
 }
 
 // Runs all steps of an iteration.
@@ -99,13 +99,13 @@ fn run_steps(
     all: &mut [Cells],
     mail: &mut Mail,
     scene: &mut Scene,
-    effects: &mut Effects,
+    sent: &mut Vec<Outgoing>,
 ) -> Result<(), Memory>
     requires { length all.old ≡ elements plan.now }
     ensures { OnOk result (record { states = all.new; tables = tables_of mail.new } ≡ steps_run plan.now k (steps_in_round plan.now) (record { states = all.old; tables = tables_of mail.old })) }
 {
     for s in 0..plan.steps_in_round() {
-        run_elements(plan, s, k, all, mail, scene, effects)?;
+        run_elements(plan, s, k, all, mail, scene, sent)?;
     }
     Ok(())
 }
@@ -119,7 +119,7 @@ fn run_elements(
     all: &mut [Cells],
     mail: &mut Mail,
     scene: &mut Scene,
-    effects: &mut Effects,
+    sent: &mut Vec<Outgoing>,
 ) -> Result<(), Memory>
     requires { length all.old ≡ elements plan.now }
     ensures { OnOk result (record { states = all.new; tables = tables_of mail.new } ≡ elements_run plan.now s k (elements plan.now) (record { states = all.old; tables = tables_of mail.old })) }
@@ -133,9 +133,9 @@ fn run_elements(
             mail,
             &mut all[e as usize],
             scene,
-            effects,
+            sent,
         )?;
-        mail.deliver(effects.as_slice())?;
+        mail.deliver(sent.as_slice())?;
     }
     Ok(())
 }
@@ -149,14 +149,14 @@ fn run_step(
     mail: &Mail,
     cells: &mut Cells,
     scene: &mut Scene,
-    effects: &mut Effects,
+    sent: &mut Vec<Outgoing>,
 ) -> Result<(), Memory>
     requires { e.0 < elements plan.now }
-    ensures { OnOk result (record { cells = cells.new; sent = effects.new } ≡ step_of plan.now s k e.0 (box_of plan.now (tables_of mail.now) e.0) cells.old) }
+    ensures { OnOk result (record { cells = cells.new; sent = sent.new.items } ≡ step_of plan.now s k e.0 (box_of plan.now (tables_of mail.now) e.0) cells.old) }
 {
     let place = plan.place(e);
     let array = plan.array_at(e, place);
-    effects.clear();
+    sent.clear();
     run_parts(
         plan,
         e,
@@ -168,7 +168,7 @@ fn run_step(
         mail,
         cells,
         scene,
-        effects,
+        sent,
     )
 }
 
@@ -195,17 +195,17 @@ fn run_parts(
     mail: &Mail,
     cells: &mut Cells,
     scene: &mut Scene,
-    effects: &mut Effects,
+    sent: &mut Vec<Outgoing>,
 ) -> Result<(), Memory>
     requires element { e.0 < elements plan.now }
     requires place { place ≡ place_of plan.now e.0 }
     requires cols { cols ≡ cols_at plan.now e.0 }
-    ensures { OnOk result (record { cells = cells.new; sent = effects.new } ≡ parts_run plan.now e.0 s k (box_of plan.now (tables_of mail.now) e.0) parts.now (record { cells = cells.old; sent = effects.old })) }
+    ensures { OnOk result (record { cells = cells.new; sent = sent.new.items } ≡ parts_run plan.now e.0 s k (box_of plan.now (tables_of mail.now) e.0) parts.now (record { cells = cells.old; sent = sent.old.items })) }
 {
     for part in parts {
         mail.give(plan, e, place.index, part.need, &mut scene.values);
         let block = part.block.as_slice();
-        run_in(plan, e, place, s, k, cols, block, scene, cells, effects)?;
+        run_in(plan, e, place, s, k, cols, block, scene, cells, sent)?;
     }
     Ok(())
 }

@@ -60,7 +60,7 @@ pub fn value(e: &Expr, scene: &Scene, cells: &[i64]) -> Computed
             at,
             cells: count,
             place,
-        } => cell_at(cells, *at, *count, operand(place.get(), scene, cells)),
+        } => cell_at(cells, *at, *count, leaf(place.get(), scene, cells)),
         Expr::Mail(at) => Computed::clean(number_at(&scene.values, *at)),
         Expr::Loop(slot) => Computed::clean(scene.loops.get(*slot)),
         Expr::Index => Computed::clean(i64::from(scene.index)),
@@ -80,30 +80,38 @@ pub fn value(e: &Expr, scene: &Scene, cells: &[i64]) -> Computed
             operand(a.get(), scene, cells).compared(*op, operand(b.get(), scene, cells))
         }
         Expr::Sum(first, others) => {
-            sum(
-                operand(first.get(), scene, cells),
-                others.as_slice(),
-                scene,
-                cells,
-            )
+            let first = operand(first.get(), scene, cells);
+            sum(first, others.as_slice(), scene, cells)
         }
         Expr::Product(first, others) => {
-            product(
-                operand(first.get(), scene, cells),
-                others.as_slice(),
-                scene,
-                cells,
-            )
+            let first = operand(first.get(), scene, cells);
+            product(first, others.as_slice(), scene, cells)
         }
         Expr::All(operands) => all(operands.as_slice(), scene, cells),
         Expr::Any(operands) => any(operands.as_slice(), scene, cells),
     }
 }
 
-// What an operand computes. Most are numbers, cells and the like, which cost no call so.
+// What an operand computes. Most are leaves, or a cell at one, which cost no call so.
 #[cycle(expressions)]
 #[inline(always)]
-fn operand(e: &Expr, scene: &Scene, cells: &[i64]) -> Computed
+pub(crate) fn operand(e: &Expr, scene: &Scene, cells: &[i64]) -> Computed
+    ensures { result ≡ value_of e.now scene.now cells.now }
+{
+    match e {
+        Expr::CellAt {
+            at,
+            cells: count,
+            place,
+        } => cell_at(cells, *at, *count, leaf(place.get(), scene, cells)),
+        _ => leaf(e, scene, cells),
+    }
+}
+
+// The same where a leaf alone costs no call.
+#[cycle(expressions)]
+#[inline(always)]
+fn leaf(e: &Expr, scene: &Scene, cells: &[i64]) -> Computed
     ensures { result ≡ value_of e.now scene.now cells.now }
 {
     match e {

@@ -138,6 +138,8 @@ fn go<M: Placement>(
 }
 
 // The actor that is taken, and its event. Going round asks one actor after another, and no more of them than it must.
+// It and what it asks are inlined, since each event begins with them.
+#[inline(always)]
 fn next_event<M: Placement>(
     plan: &Plan,
     map: &M,
@@ -160,6 +162,7 @@ fn next_event<M: Placement>(
 }
 
 // The first actor behind the last one that has an event, else the first of all.
+#[inline(always)]
 fn next_round<M: Placement>(
     plan: &Plan,
     map: &M,
@@ -186,6 +189,7 @@ fn behind(last: usize, actors: usize) -> usize
 }
 
 // The first actor from one to another that has an event.
+#[inline(always)]
 fn first_ready<M: Placement>(
     plan: &Plan,
     map: &M,
