@@ -76,7 +76,8 @@ impl Plan {
 fn source_in(arrays: &[Array], index: u32, entry: &Entry) -> Source
     requires rows { 0 < rows_of arrays.now entry.now.source }
     requires cols { 0 < cols_of arrays.now entry.now.source }
-    requires fits { first_of arrays.now entry.now.source + rows_of arrays.now entry.now.source * cols_of arrays.now entry.now.source ≤ 4096 }
+    requires fits { first_of arrays.now entry.now.source + rows_of arrays.now entry.now.source
+        * cols_of arrays.now entry.now.source ≤ 4096 }
     requires values { entry.now.values ≤ 8 }
     ensures { result ≡ source_in arrays.now index entry.now }
 {
@@ -90,7 +91,8 @@ fn source_in(arrays: &[Array], index: u32, entry: &Entry) -> Source
 fn target_in(arrays: &[Array], index: u32, entry: &Entry) -> Option<ElementId>
     requires rows { 0 < rows_of arrays.now entry.now.owner }
     requires cols { 0 < cols_of arrays.now entry.now.owner }
-    requires fits { first_of arrays.now entry.now.owner + rows_of arrays.now entry.now.owner * cols_of arrays.now entry.now.owner ≤ 4096 }
+    requires fits { first_of arrays.now entry.now.owner + rows_of arrays.now entry.now.owner
+        * cols_of arrays.now entry.now.owner ≤ 4096 }
     ensures { result ≡ target_in arrays.now index entry.now }
 {
     match target_index(arrays, entry, index) {
@@ -103,9 +105,11 @@ fn target_in(arrays: &[Array], index: u32, entry: &Entry) -> Option<ElementId>
 fn source_index(arrays: &[Array], entry: &Entry, index: u32) -> Option<u32>
     requires rows { 0 < rows_of arrays.now entry.now.source }
     requires cols { 0 < cols_of arrays.now entry.now.source }
-    requires size { rows_of arrays.now entry.now.source * cols_of arrays.now entry.now.source ≤ 4096 }
+    requires size { rows_of arrays.now entry.now.source * cols_of arrays.now entry.now.source
+        ≤ 4096 }
     ensures exact { result ≡ source_index arrays.now entry.now index }
-    ensures within { IfSome result (λ i. i < rows_of arrays.now entry.now.source * cols_of arrays.now entry.now.source) }
+    ensures within { IfSome result
+        (λ i. i < rows_of arrays.now entry.now.source * cols_of arrays.now entry.now.source) }
 {
     let (rows, cols) = (rows_of(arrays, entry.source), cols_of(arrays, entry.source));
     let row = after(index / cols, entry.down);
@@ -119,7 +123,8 @@ fn target_index(arrays: &[Array], entry: &Entry, index: u32) -> Option<u32>
     requires cols { 0 < cols_of arrays.now entry.now.owner }
     requires size { rows_of arrays.now entry.now.owner * cols_of arrays.now entry.now.owner ≤ 4096 }
     ensures exact { result ≡ target_index arrays.now entry.now index }
-    ensures within { IfSome result (λ i. i < rows_of arrays.now entry.now.owner * cols_of arrays.now entry.now.owner) }
+    ensures within { IfSome result
+        (λ i. i < rows_of arrays.now entry.now.owner * cols_of arrays.now entry.now.owner) }
 {
     let (rows, cols) = (rows_of(arrays, entry.owner), cols_of(arrays, entry.owner));
     let row = before(index / cols, entry.down);

@@ -34,8 +34,17 @@ impl Plan {
         reductions: Items<Reduction>,
         answers: Items<Answer>,
     ) -> Option<Plan>
-        ensures holds { IsSome result ↔ IsTrue (rules_hold name iterations arrays entries reductions answers) }
-        ensures fields { IfSome result (λ p. fields_of p ≡ record { name = name; iterations = iterations; arrays = arrays; entries = entries; reductions = reductions; answers = answers }) }
+        ensures holds { IsSome result
+            ↔ IsTrue (rules_hold name iterations arrays entries reductions answers) }
+        ensures fields { IfSome result
+            (λ p. fields_of p ≡ record {
+              name = name;
+              iterations = iterations;
+              arrays = arrays;
+              entries = entries;
+              reductions = reductions;
+              answers = answers;
+            }) }
     {
         let (a, e, r) = (arrays.as_slice(), entries.as_slice(), reductions.as_slice());
         if limits_hold(&name, iterations, a, e, r, answers.as_slice())

@@ -57,7 +57,8 @@ fn answer_fault(
 }
 
 fn over_fault(text: &[u8], names: &JobNames, array: Span, state: Span) -> Option<CheckFault>
-    ensures { result ≡ over_fault text.now names.now array state (array_number text.now names.now.arrays array) }
+    ensures { result ≡ over_fault text.now names.now array state
+        (array_number text.now names.now.arrays array) }
 {
     match array_number(text, &names.arrays, array) {
         Some(number) => state_fault(state, member_meaning(names, number, bytes_at(text, state))),
@@ -74,7 +75,8 @@ fn at_fault(
     state: Span,
     index: Option<Num>,
 ) -> Option<CheckFault>
-    ensures { result ≡ at_fault text.now names.now arrays.now array element state index (array_number text.now names.now.arrays array) }
+    ensures { result ≡ at_fault text.now names.now arrays.now array element state index
+        (array_number text.now names.now.arrays array) }
 {
     match array_number(text, &names.arrays, array) {
         Some(number) => {
@@ -114,7 +116,8 @@ fn element_fault(
 }
 
 fn coordinates_fault(name: Span, sizes: Coordinates, element: Coordinates) -> Option<CheckFault>
-    ensures { result ≡ coordinates_fault name sizes.first element.first sizes.second element.second }
+    ensures { result ≡ coordinates_fault name sizes.first element.first sizes.second
+        element.second }
 {
     let first = below(sizes.first.value, element.first);
     match (sizes.second, element.second) {

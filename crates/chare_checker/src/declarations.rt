@@ -85,7 +85,8 @@ fn members_fault(
     array: &ArrayDecl,
     found: Option<CheckFault>,
 ) -> Option<CheckFault>
-    ensures { result ≡ members_found text.now names.now arrays.now number array.now.sizes counts found array.now.members }
+    ensures { result ≡ members_found text.now names.now arrays.now number array.now.sizes counts
+        found array.now.members }
 {
     let mut found = found;
     let mut counts = counts;

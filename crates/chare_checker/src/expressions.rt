@@ -25,7 +25,9 @@ pub(crate) fn walk_value(
     notes: &mut Notes,
     value: &Expr,
 ) -> Result<(), Memory>
-    ensures { OnOk result (notes.new ≡ value_walked scope.now.text.now scope.now.table.now site scope.now.params.now loops.now value.now notes.old) }
+    ensures { OnOk result (notes.new
+        ≡ value_walked scope.now.text.now scope.now.table.now site scope.now.params.now loops.now
+        value.now notes.old) }
 {
     walk_expr(scope, site, loops, notes, value)?;
     Ok(())
@@ -39,7 +41,9 @@ fn walk_expr(
     notes: &mut Notes,
     expr: &Expr,
 ) -> Result<(), Memory>
-    ensures { OnOk result (notes.new ≡ expr_walked scope.now.text.now scope.now.table.now site scope.now.params.now loops.now expr.now notes.old) }
+    ensures { OnOk result (notes.new
+        ≡ expr_walked scope.now.text.now scope.now.table.now site scope.now.params.now loops.now
+        expr.now notes.old) }
 {
     walk_conj(scope, site, loops, notes, &expr.first)?;
     walk_conjs(scope, site, loops, notes, expr.others.as_slice())?;
@@ -54,7 +58,9 @@ fn walk_conjs(
     notes: &mut Notes,
     conjs: &[Conj],
 ) -> Result<(), Memory>
-    ensures { OnOk result (notes.new ≡ in_order (map (conj_walked scope.now.text.now scope.now.table.now site scope.now.params.now loops.now) conjs.now) notes.old) }
+    ensures { OnOk result (notes.new
+        ≡ in_order (map (conj_walked scope.now.text.now scope.now.table.now site
+        scope.now.params.now loops.now) conjs.now) notes.old) }
 {
     for conj in conjs {
         walk_conj(scope, site, loops, notes, conj)?;
@@ -70,7 +76,9 @@ fn walk_conj(
     notes: &mut Notes,
     conj: &Conj,
 ) -> Result<(), Memory>
-    ensures { OnOk result (notes.new ≡ conj_walked scope.now.text.now scope.now.table.now site scope.now.params.now loops.now conj.now notes.old) }
+    ensures { OnOk result (notes.new
+        ≡ conj_walked scope.now.text.now scope.now.table.now site scope.now.params.now loops.now
+        conj.now notes.old) }
 {
     walk_test(scope, site, loops, notes, conj.first.get())?;
     walk_tests(scope, site, loops, notes, conj.others.as_slice())?;
@@ -85,7 +93,9 @@ fn walk_tests(
     notes: &mut Notes,
     tests: &[Test],
 ) -> Result<(), Memory>
-    ensures { OnOk result (notes.new ≡ in_order (map (test_walked scope.now.text.now scope.now.table.now site scope.now.params.now loops.now) tests.now) notes.old) }
+    ensures { OnOk result (notes.new
+        ≡ in_order (map (test_walked scope.now.text.now scope.now.table.now site
+        scope.now.params.now loops.now) tests.now) notes.old) }
 {
     for test in tests {
         walk_test(scope, site, loops, notes, test)?;
@@ -101,7 +111,9 @@ fn walk_test(
     notes: &mut Notes,
     test: &Test,
 ) -> Result<(), Memory>
-    ensures { OnOk result (notes.new ≡ test_walked scope.now.text.now scope.now.table.now site scope.now.params.now loops.now test.now notes.old) }
+    ensures { OnOk result (notes.new
+        ≡ test_walked scope.now.text.now scope.now.table.now site scope.now.params.now loops.now
+        test.now notes.old) }
 {
     match test {
         Test::Not { operand, .. } => walk_test(scope, site, loops, notes, operand.get())?,
@@ -122,7 +134,9 @@ fn walk_sum(
     notes: &mut Notes,
     sum: &Sum,
 ) -> Result<(), Memory>
-    ensures { OnOk result (notes.new ≡ sum_walked scope.now.text.now scope.now.table.now site scope.now.params.now loops.now sum.now notes.old) }
+    ensures { OnOk result (notes.new
+        ≡ sum_walked scope.now.text.now scope.now.table.now site scope.now.params.now loops.now
+        sum.now notes.old) }
 {
     walk_product(scope, site, loops, notes, sum.first.get())?;
     walk_sum_terms(scope, site, loops, notes, sum.others.as_slice())?;
@@ -137,7 +151,9 @@ fn walk_sum_terms(
     notes: &mut Notes,
     sum_terms: &[SumTerm],
 ) -> Result<(), Memory>
-    ensures { OnOk result (notes.new ≡ in_order (map (sum_term_walked scope.now.text.now scope.now.table.now site scope.now.params.now loops.now) sum_terms.now) notes.old) }
+    ensures { OnOk result (notes.new
+        ≡ in_order (map (sum_term_walked scope.now.text.now scope.now.table.now site
+        scope.now.params.now loops.now) sum_terms.now) notes.old) }
 {
     for sum_term in sum_terms {
         walk_sum_term(scope, site, loops, notes, sum_term)?;
@@ -153,7 +169,9 @@ fn walk_sum_term(
     notes: &mut Notes,
     sum_term: &SumTerm,
 ) -> Result<(), Memory>
-    ensures { OnOk result (notes.new ≡ sum_term_walked scope.now.text.now scope.now.table.now site scope.now.params.now loops.now sum_term.now notes.old) }
+    ensures { OnOk result (notes.new
+        ≡ sum_term_walked scope.now.text.now scope.now.table.now site scope.now.params.now loops.now
+        sum_term.now notes.old) }
 {
     walk_product(scope, site, loops, notes, &sum_term.value)?;
     Ok(())
@@ -167,7 +185,9 @@ fn walk_product(
     notes: &mut Notes,
     product: &Product,
 ) -> Result<(), Memory>
-    ensures { OnOk result (notes.new ≡ product_walked scope.now.text.now scope.now.table.now site scope.now.params.now loops.now product.now notes.old) }
+    ensures { OnOk result (notes.new
+        ≡ product_walked scope.now.text.now scope.now.table.now site scope.now.params.now loops.now
+        product.now notes.old) }
 {
     walk_unary(scope, site, loops, notes, &product.first)?;
     walk_product_terms(scope, site, loops, notes, product.others.as_slice())?;
@@ -182,7 +202,9 @@ fn walk_product_terms(
     notes: &mut Notes,
     product_terms: &[ProductTerm],
 ) -> Result<(), Memory>
-    ensures { OnOk result (notes.new ≡ in_order (map (product_term_walked scope.now.text.now scope.now.table.now site scope.now.params.now loops.now) product_terms.now) notes.old) }
+    ensures { OnOk result (notes.new
+        ≡ in_order (map (product_term_walked scope.now.text.now scope.now.table.now site
+        scope.now.params.now loops.now) product_terms.now) notes.old) }
 {
     for product_term in product_terms {
         walk_product_term(scope, site, loops, notes, product_term)?;
@@ -198,7 +220,9 @@ fn walk_product_term(
     notes: &mut Notes,
     product_term: &ProductTerm,
 ) -> Result<(), Memory>
-    ensures { OnOk result (notes.new ≡ product_term_walked scope.now.text.now scope.now.table.now site scope.now.params.now loops.now product_term.now notes.old) }
+    ensures { OnOk result (notes.new
+        ≡ product_term_walked scope.now.text.now scope.now.table.now site scope.now.params.now
+        loops.now product_term.now notes.old) }
 {
     walk_unary(scope, site, loops, notes, &product_term.value)?;
     Ok(())
@@ -212,7 +236,9 @@ fn walk_unary(
     notes: &mut Notes,
     unary: &Unary,
 ) -> Result<(), Memory>
-    ensures { OnOk result (notes.new ≡ unary_walked scope.now.text.now scope.now.table.now site scope.now.params.now loops.now unary.now notes.old) }
+    ensures { OnOk result (notes.new
+        ≡ unary_walked scope.now.text.now scope.now.table.now site scope.now.params.now loops.now
+        unary.now notes.old) }
 {
     match unary {
         Unary::Minus { operand, .. } => walk_unary(scope, site, loops, notes, operand.get())?,
@@ -229,7 +255,9 @@ fn walk_atom(
     notes: &mut Notes,
     atom: &Atom,
 ) -> Result<(), Memory>
-    ensures { OnOk result (notes.new ≡ atom_walked scope.now.text.now scope.now.table.now site scope.now.params.now loops.now atom.now notes.old) }
+    ensures { OnOk result (notes.new
+        ≡ atom_walked scope.now.text.now scope.now.table.now site scope.now.params.now loops.now
+        atom.now notes.old) }
 {
     match atom {
         Atom::Number(_) => {}
@@ -257,7 +285,9 @@ fn walk_name(
     name: Span,
     indexed: bool,
 ) -> Result<(), Memory>
-    ensures { OnOk result (notes.new ≡ name_walked scope.now.text.now scope.now.table.now site scope.now.params.now loops.now name indexed notes.old) }
+    ensures { OnOk result (notes.new
+        ≡ name_walked scope.now.text.now scope.now.table.now site scope.now.params.now loops.now
+        name indexed notes.old) }
 {
     let meaning = scope.meaning(name);
     let local = scope.is_local(loops, name);
@@ -303,7 +333,8 @@ fn read_state(
     indexed: bool,
     notes: &mut Notes,
 ) -> Result<(), Memory>
-    ensures { OnOk result (notes.new ≡ state_read site number declared plain name indexed notes.old) }
+    ensures { OnOk result (notes.new
+        ≡ state_read site number declared plain name indexed notes.old) }
 {
     let kind = CheckFault::Kind { at: name.at };
     match site {

@@ -29,7 +29,9 @@ pub(crate) fn walk_block(
     notes: &mut Notes,
     block: &Block,
 ) -> Result<(), Memory>
-    ensures exact { OnOk result (notes.new ≡ block_walked scope.now.text.now scope.now.names.now scope.now.table.now part scope.now.params.now block.now loops.old.items nested notes.old) }
+    ensures exact { OnOk result
+        (notes.new ≡ block_walked scope.now.text.now scope.now.names.now scope.now.table.now part
+        scope.now.params.now block.now loops.old.items nested notes.old) }
     ensures loops { OnOk result (loops.new.items ≡ loops.old.items) }
 {
     walk_stmts(
@@ -52,7 +54,10 @@ fn walk_stmts(
     notes: &mut Notes,
     stmts: &[StmtDecl],
 ) -> Result<(), Memory>
-    ensures exact { OnOk result (notes.new ≡ each_walked (map (stmt_walked scope.now.text.now scope.now.names.now scope.now.table.now part scope.now.params.now) stmts.now) loops.old.items nested notes.old) }
+    ensures exact { OnOk result
+        (notes.new ≡ each_walked (map
+        (stmt_walked scope.now.text.now scope.now.names.now scope.now.table.now part
+        scope.now.params.now) stmts.now) loops.old.items nested notes.old) }
     ensures loops { OnOk result (loops.new.items ≡ loops.old.items) }
 {
     for stmt in stmts {
@@ -70,7 +75,9 @@ fn walk_stmt(
     notes: &mut Notes,
     stmt: &StmtDecl,
 ) -> Result<(), Memory>
-    ensures exact { OnOk result (notes.new ≡ stmt_walked scope.now.text.now scope.now.names.now scope.now.table.now part scope.now.params.now stmt.now loops.old.items nested notes.old) }
+    ensures exact { OnOk result
+        (notes.new ≡ stmt_walked scope.now.text.now scope.now.names.now scope.now.table.now part
+        scope.now.params.now stmt.now loops.old.items nested notes.old) }
     ensures loops { OnOk result (loops.new.items ≡ loops.old.items) }
 {
     match stmt {
@@ -109,7 +116,11 @@ fn walk_for(
     name: Span,
     block: &Block,
 ) -> Result<(), Memory>
-    ensures exact { OnOk result (notes.new ≡ for_walked (loop_walked scope.now.text.now scope.now.table.now scope.now.params.now loops.old.items name) name (block_walked scope.now.text.now scope.now.names.now scope.now.table.now part scope.now.params.now block.now) loops.old.items notes.old) }
+    ensures exact { OnOk result
+        (notes.new ≡ for_walked (loop_walked scope.now.text.now scope.now.table.now
+        scope.now.params.now loops.old.items name) name
+        (block_walked scope.now.text.now scope.now.names.now scope.now.table.now part
+        scope.now.params.now block.now) loops.old.items notes.old) }
     ensures loops { OnOk result (loops.new.items ≡ loops.old.items) }
 {
     walk_loop(scope, loops, notes, name);
@@ -128,7 +139,9 @@ fn walk_assign(
     index: &Option<Expr>,
     value: &Expr,
 ) -> Result<(), Memory>
-    ensures { OnOk result (notes.new ≡ assign_walked scope.now.text.now scope.now.table.now part scope.now.params.now loops.now target index.now value.now notes.old) }
+    ensures { OnOk result (notes.new
+        ≡ assign_walked scope.now.text.now scope.now.table.now part scope.now.params.now loops.now
+        target index.now value.now notes.old) }
 {
     walk_target(scope, part.part, loops, notes, target, index.is_some())?;
     walk_index(scope, part, loops, notes, index)?;
@@ -145,7 +158,10 @@ fn walk_other(
     notes: &mut Notes,
     other: &Option<Block>,
 ) -> Result<(), Memory>
-    ensures exact { OnOk result (notes.new ≡ other_walked (option_map (block_walked scope.now.text.now scope.now.names.now scope.now.table.now part scope.now.params.now) other.now) loops.old.items true notes.old) }
+    ensures exact { OnOk result
+        (notes.new ≡ other_walked (option_map
+        (block_walked scope.now.text.now scope.now.names.now scope.now.table.now part
+        scope.now.params.now) other.now) loops.old.items true notes.old) }
     ensures loops { OnOk result (loops.new.items ≡ loops.old.items) }
 {
     match other {
@@ -162,7 +178,9 @@ fn walk_operand(
     notes: &mut Notes,
     value: &Expr,
 ) -> Result<(), Memory>
-    ensures { OnOk result (notes.new ≡ operand_walked scope.now.text.now scope.now.table.now part scope.now.params.now loops.now value.now notes.old) }
+    ensures { OnOk result (notes.new
+        ≡ operand_walked scope.now.text.now scope.now.table.now part scope.now.params.now loops.now
+        value.now notes.old) }
 {
     let site = Site::Part { number: part.part };
     walk_value(scope, site, loops, notes, value)?;
@@ -176,7 +194,9 @@ fn walk_index(
     notes: &mut Notes,
     index: &Option<Expr>,
 ) -> Result<(), Memory>
-    ensures { OnOk result (notes.new ≡ index_walked scope.now.text.now scope.now.table.now part scope.now.params.now loops.now index.now notes.old) }
+    ensures { OnOk result (notes.new
+        ≡ index_walked scope.now.text.now scope.now.table.now part scope.now.params.now loops.now
+        index.now notes.old) }
 {
     match index {
         Some(index) => walk_operand(scope, part, loops, notes, index)?,
@@ -196,7 +216,10 @@ fn walk_send(
     entry: Span,
     values: &Values,
 ) -> Result<(), Memory>
-    ensures { OnOk result (notes.new ≡ values_walked scope.now.text.now scope.now.table.now part scope.now.params.now loops.now values.now (send_walked scope.now.text.now scope.now.names.now part at nested (count_values values.now) array entry notes.old)) }
+    ensures { OnOk result (notes.new
+        ≡ values_walked scope.now.text.now scope.now.table.now part scope.now.params.now loops.now
+        values.now (send_walked scope.now.text.now scope.now.names.now part at nested
+        (count_values values.now) array entry notes.old)) }
 {
     let count = count_values(values);
     note_send(scope, part, at, nested, count, array, entry, notes)?;
@@ -214,7 +237,10 @@ fn walk_contribute(
     name: Span,
     value: &Expr,
 ) -> Result<(), Memory>
-    ensures { OnOk result (notes.new ≡ operand_walked scope.now.text.now scope.now.table.now part scope.now.params.now loops.now value.now (contribute_walked scope.now.text.now scope.now.table.now part at nested name notes.old)) }
+    ensures { OnOk result (notes.new
+        ≡ operand_walked scope.now.text.now scope.now.table.now part scope.now.params.now loops.now
+        value.now (contribute_walked scope.now.text.now scope.now.table.now part at nested name
+        notes.old)) }
 {
     note_contribution(scope, part, at, nested, name, notes)?;
     walk_operand(scope, part, loops, notes, value)?;
@@ -228,7 +254,9 @@ fn walk_values(
     notes: &mut Notes,
     values: &Values,
 ) -> Result<(), Memory>
-    ensures { OnOk result (notes.new ≡ values_walked scope.now.text.now scope.now.table.now part scope.now.params.now loops.now values.now notes.old) }
+    ensures { OnOk result (notes.new
+        ≡ values_walked scope.now.text.now scope.now.table.now part scope.now.params.now loops.now
+        values.now notes.old) }
 {
     walk_operand(scope, part, loops, notes, &values.first)?;
     walk_operands(scope, part, loops, notes, values.others.as_slice())?;
@@ -242,7 +270,9 @@ fn walk_operands(
     notes: &mut Notes,
     values: &[Expr],
 ) -> Result<(), Memory>
-    ensures { OnOk result (notes.new ≡ in_order (map (operand_walked scope.now.text.now scope.now.table.now part scope.now.params.now loops.now) values.now) notes.old) }
+    ensures { OnOk result (notes.new
+        ≡ in_order (map (operand_walked scope.now.text.now scope.now.table.now part
+        scope.now.params.now loops.now) values.now) notes.old) }
 {
     for value in values {
         walk_operand(scope, part, loops, notes, value)?;
@@ -266,7 +296,9 @@ fn walk_target(
     name: Span,
     indexed: bool,
 ) -> Result<(), Memory>
-    ensures { OnOk result (notes.new ≡ target_walked scope.now.text.now scope.now.table.now part scope.now.params.now loops.now name indexed notes.old) }
+    ensures { OnOk result (notes.new
+        ≡ target_walked scope.now.text.now scope.now.table.now part scope.now.params.now loops.now
+        name indexed notes.old) }
 {
     let meaning = scope.meaning(name);
     let local = scope.is_local(loops, name);
@@ -318,7 +350,8 @@ fn unwritable(local: bool, name: Span) -> Option<CheckFault>
 
 #[tactic(auto, unfolding(job_rules::specs::Statements::loop_walked))]
 fn walk_loop(scope: &Scope, loops: &[Span], notes: &mut Notes, name: Span)
-    ensures { notes.new ≡ loop_walked scope.now.text.now scope.now.table.now scope.now.params.now loops.now name notes.old }
+    ensures { notes.new ≡ loop_walked scope.now.text.now scope.now.table.now scope.now.params.now
+        loops.now name notes.old }
 {
     let taken = scope.meaning(name).is_some() || scope.is_local(loops, name);
     notes.note(name_fault(name));
@@ -336,7 +369,9 @@ fn note_send(
     entry: Span,
     notes: &mut Notes,
 ) -> Result<(), Memory>
-    ensures { OnOk result (notes.new ≡ send_walked scope.now.text.now scope.now.names.now part at nested count array entry notes.old) }
+    ensures { OnOk result (notes.new
+        ≡ send_walked scope.now.text.now scope.now.names.now part at nested count array entry
+        notes.old) }
 {
     let number = array_number(scope.text, &scope.names.arrays, array);
     let meaning = meant_in(scope.names, number, bytes_at(scope.text, entry));
@@ -360,7 +395,8 @@ fn send_to_member(
     entry: Span,
     notes: &mut Notes,
 ) -> Result<(), Memory>
-    ensures { OnOk result (notes.new ≡ member_named part at nested count number meaning array entry notes.old) }
+    ensures { OnOk result (notes.new
+        ≡ member_named part at nested count number meaning array entry notes.old) }
 {
     match number {
         Some(_) => send_to_entry(part, at, nested, count, meaning, entry, notes)?,
@@ -408,7 +444,8 @@ fn note_contribution(
     name: Span,
     notes: &mut Notes,
 ) -> Result<(), Memory>
-    ensures { OnOk result (notes.new ≡ contribute_walked scope.now.text.now scope.now.table.now part at nested name notes.old) }
+    ensures { OnOk result (notes.new
+        ≡ contribute_walked scope.now.text.now scope.now.table.now part at nested name notes.old) }
 {
     let meaning = scope.meaning(name);
     notes.note(name_fault(name));

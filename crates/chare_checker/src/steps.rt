@@ -92,7 +92,9 @@ fn walk_with(
     array: &ArrayDecl,
     notes: &mut Notes,
 ) -> Result<(), Memory>
-    ensures { OnOk result (notes.new ≡ array_with scope.now.text.now scope.now.names.now scope.now.table.now number array.now notes.old) }
+    ensures { OnOk result (notes.new
+        ≡ array_with scope.now.text.now scope.now.names.now scope.now.table.now number array.now
+        notes.old) }
 {
     walk_starts(scope, array.states.as_slice(), notes)?;
     walk_steps(alloc, scope, number, array.steps.as_slice(), notes)?;
@@ -100,7 +102,8 @@ fn walk_with(
 }
 
 fn walk_starts(scope: &Scope, states: &[StateDecl], notes: &mut Notes) -> Result<(), Memory>
-    ensures { OnOk result (notes.new ≡ starts_walked scope.now.text.now scope.now.table.now states.now notes.old) }
+    ensures { OnOk result (notes.new
+        ≡ starts_walked scope.now.text.now scope.now.table.now states.now notes.old) }
 {
     for state in states {
         walk_start(scope, state, notes)?;
@@ -109,7 +112,8 @@ fn walk_starts(scope: &Scope, states: &[StateDecl], notes: &mut Notes) -> Result
 }
 
 fn walk_start(scope: &Scope, state: &StateDecl, notes: &mut Notes) -> Result<(), Memory>
-    ensures { OnOk result (notes.new ≡ start_walked scope.now.text.now scope.now.table.now state.now notes.old) }
+    ensures { OnOk result (notes.new
+        ≡ start_walked scope.now.text.now scope.now.table.now state.now notes.old) }
 {
     let site = Site::Start {
         sized: state.cells.is_some(),
@@ -131,7 +135,9 @@ fn walk_steps(
     steps: &[StepDecl],
     notes: &mut Notes,
 ) -> Result<(), Memory>
-    ensures { OnOk result (notes.new ≡ steps_walked scope.now.text.now scope.now.names.now scope.now.table.now array 0 steps.now notes.old) }
+    ensures { OnOk result (notes.new
+        ≡ steps_walked scope.now.text.now scope.now.names.now scope.now.table.now array 0 steps.now
+        notes.old) }
 {
     for (number, step) in steps.iter().enumerate() {
         walk_step(alloc, scope, array, number, step, notes)?;
@@ -147,7 +153,9 @@ fn walk_step(
     step: &StepDecl,
     notes: &mut Notes,
 ) -> Result<(), Memory>
-    ensures { OnOk result (notes.new ≡ step_walked scope.now.text.now scope.now.names.now scope.now.table.now array number step.now notes.old) }
+    ensures { OnOk result (notes.new
+        ≡ step_walked scope.now.text.now scope.now.names.now scope.now.table.now array number
+        step.now notes.old) }
 {
     walk_body(alloc, scope, array, number, &step.body, notes)?;
     close_step(alloc, notes);
@@ -171,7 +179,9 @@ fn walk_body(
     body: &StepBody,
     notes: &mut Notes,
 ) -> Result<(), Memory>
-    ensures { OnOk result (notes.new ≡ body_walked scope.now.text.now scope.now.names.now scope.now.table.now array step body.now notes.old) }
+    ensures { OnOk result (notes.new
+        ≡ body_walked scope.now.text.now scope.now.names.now scope.now.table.now array step body.now
+        notes.old) }
 {
     match body {
         StepBody::Block(block) => {
@@ -195,7 +205,9 @@ fn walk_parts(
     parts: &[PartDecl],
     notes: &mut Notes,
 ) -> Result<(), Memory>
-    ensures { OnOk result (notes.new ≡ parts_walked scope.now.text.now scope.now.names.now scope.now.table.now array step 0 parts.now notes.old) }
+    ensures { OnOk result (notes.new
+        ≡ parts_walked scope.now.text.now scope.now.names.now scope.now.table.now array step 0
+        parts.now notes.old) }
 {
     for (number, part) in parts.iter().enumerate() {
         walk_part(alloc, scope, part_at(array, step, number), part, notes)?;
@@ -211,7 +223,9 @@ fn walk_free_part(
     block: &Block,
     notes: &mut Notes,
 ) -> Result<(), Memory>
-    ensures { OnOk result (notes.new ≡ free_part scope.now.text.now scope.now.names.now scope.now.table.now part block.now notes.old) }
+    ensures { OnOk result (notes.new
+        ≡ free_part scope.now.text.now scope.now.names.now scope.now.table.now part block.now
+        notes.old) }
 {
     let scope = Scope {
         text: scope.text,
@@ -232,7 +246,9 @@ fn walk_part(
     part: &PartDecl,
     notes: &mut Notes,
 ) -> Result<(), Memory>
-    ensures { OnOk result (notes.new ≡ part_walked scope.now.text.now scope.now.names.now scope.now.table.now at part.now notes.old) }
+    ensures { OnOk result (notes.new
+        ≡ part_walked scope.now.text.now scope.now.names.now scope.now.table.now at part.now
+        notes.old) }
 {
     let params = names_listed(alloc, &part.names)?;
     walk_part_with(alloc, scope, at, params.as_slice(), part, notes)?;
@@ -249,7 +265,9 @@ fn walk_part_with(
     part: &PartDecl,
     notes: &mut Notes,
 ) -> Result<(), Memory>
-    ensures { OnOk result (notes.new ≡ part_with scope.now.text.now scope.now.names.now scope.now.table.now at params.now part.now notes.old) }
+    ensures { OnOk result (notes.new
+        ≡ part_with scope.now.text.now scope.now.names.now scope.now.table.now at params.now
+        part.now notes.old) }
 {
     walk_when(scope, at, part.at, params.len(), part.port, notes)?;
     walk_params(scope, params, notes);
@@ -265,7 +283,8 @@ fn walk_part_with(
 }
 
 fn walk_params(scope: &Scope, params: &[Span], notes: &mut Notes)
-    ensures { notes.new ≡ params_walked scope.now.text.now scope.now.table.now params.now 0 params.now notes.old }
+    ensures { notes.new ≡ params_walked scope.now.text.now scope.now.table.now params.now 0
+        params.now notes.old }
 {
     for (number, param) in params.iter().enumerate() {
         walk_param(scope, params, number, *param, notes);
@@ -275,7 +294,8 @@ fn walk_params(scope: &Scope, params: &[Span], notes: &mut Notes)
 // A parameter is declared where no other name of the array and no parameter before has its name.
 #[tactic(auto, unfolding(job_rules::specs::Steps::param_walked))]
 fn walk_param(scope: &Scope, params: &[Span], number: usize, name: Span, notes: &mut Notes)
-    ensures { notes.new ≡ param_walked scope.now.text.now scope.now.table.now params.now number name notes.old }
+    ensures { notes.new ≡ param_walked scope.now.text.now scope.now.table.now params.now number name
+        notes.old }
 {
     let first = is_number(number, local_named(scope.text, params, name));
     let taken = scope.meaning(name).is_some() || !first;
@@ -292,7 +312,8 @@ fn walk_when(
     name: Span,
     notes: &mut Notes,
 ) -> Result<(), Memory>
-    ensures { OnOk result (notes.new ≡ when_walked scope.now.text.now scope.now.table.now part at count name notes.old) }
+    ensures { OnOk result (notes.new
+        ≡ when_walked scope.now.text.now scope.now.table.now part at count name notes.old) }
 {
     let meaning = scope.meaning(name);
     notes.note(name_fault(name));

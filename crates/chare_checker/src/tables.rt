@@ -135,7 +135,8 @@ fn name_ports(
     names: &mut Names,
     members: &[MemberDecl],
 ) -> Result<(), Memory>
-    ensures { OnOk result (names.new ≡ ports_named text.now arrays.now counts names.old members.now) }
+    ensures { OnOk result (names.new
+        ≡ ports_named text.now arrays.now counts names.old members.now) }
 {
     let mut counts = counts;
     for member in members {

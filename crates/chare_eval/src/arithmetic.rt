@@ -48,7 +48,10 @@ impl Computed {
     }
 
     pub(crate) fn minus(self) -> Computed
-        ensures { result ≡ record { value = int_wrapping_sub w64 (pos 0) self.value; slip = self.slip } }
+        ensures { result ≡ record {
+          value = int_wrapping_sub w64 (pos 0) self.value;
+          slip = self.slip;
+        } }
     {
         Computed {
             value: self.value.wrapping_neg(),

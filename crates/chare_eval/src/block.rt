@@ -39,8 +39,11 @@ pub fn run_block(
     requires step { spot.step < length (steps_of plan.now e.0) }
     requires part { spot.part < length (parts_at plan.now e.0 spot.step) }
     requires cells { length cells.old.numbers ≡ cells_of plan.now e.0 }
-    ensures cells { OnOk result (cells.new ≡ (block plan.now e.0 spot.step spot.part iteration mail.now cells.old).cells) }
-    ensures sent { OnOk result (effects.new ≡ effects.old ++ (block plan.now e.0 spot.step spot.part iteration mail.now cells.old).sent) }
+    ensures cells { OnOk result
+        (cells.new ≡ (block plan.now e.0 spot.step spot.part iteration mail.now cells.old).cells) }
+    ensures sent { OnOk result
+        (effects.new ≡ effects.old ++ (block plan.now e.0 spot.step spot.part iteration mail.now
+        cells.old).sent) }
     ensures err { OnErr result ((cells.new ≡ cells.old) × (effects.new ≡ effects.old)) }
 {
     let _ = alloc;
@@ -73,8 +76,12 @@ pub fn run_part(
     requires element { e.0 < elements plan.now }
     requires place { place ≡ place_of plan.now e.0 }
     requires cols { cols ≡ cols_at plan.now e.0 }
-    ensures cells { OnOk result (cells.new ≡ (block_runs plan.now e.0 step iteration block.now payload.now (quiet cells.old)).cells) }
-    ensures sent { OnOk result (effects.new ≡ effects.old ++ (block_runs plan.now e.0 step iteration block.now payload.now (quiet cells.old)).sent) }
+    ensures cells { OnOk result
+        (cells.new ≡ (block_runs plan.now e.0 step iteration block.now payload.now
+        (quiet cells.old)).cells) }
+    ensures sent { OnOk result
+        (effects.new ≡ effects.old ++ (block_runs plan.now e.0 step iteration block.now payload.now
+        (quiet cells.old)).sent) }
     ensures err { OnErr result ((cells.new ≡ cells.old) × (effects.new ≡ effects.old)) }
 {
     let sent = &mut effects.all;
@@ -102,8 +109,12 @@ fn run_with(
     requires element { e.0 < elements plan.now }
     requires place { place ≡ place_of plan.now e.0 }
     requires cols { cols ≡ cols_at plan.now e.0 }
-    ensures cells { OnOk result (cells.new ≡ (block_runs plan.now e.0 step iteration block.now payload.now (quiet cells.old)).cells) }
-    ensures sent { OnOk result (sent.new.items ≡ sent.old.items ++ (block_runs plan.now e.0 step iteration block.now payload.now (quiet cells.old)).sent) }
+    ensures cells { OnOk result
+        (cells.new ≡ (block_runs plan.now e.0 step iteration block.now payload.now
+        (quiet cells.old)).cells) }
+    ensures sent { OnOk result
+        (sent.new.items ≡ sent.old.items
+        ++ (block_runs plan.now e.0 step iteration block.now payload.now (quiet cells.old)).sent) }
     ensures err { OnErr result ((cells.new ≡ cells.old) × (sent.new.items ≡ sent.old.items)) }
 {
     scene.values = payload.values;
@@ -128,8 +139,13 @@ pub(crate) fn run_in(
     requires element { e.0 < elements plan.now }
     requires place { place ≡ place_of plan.now e.0 }
     requires cols { cols ≡ cols_at plan.now e.0 }
-    ensures cells { OnOk result (cells.new ≡ (block_runs plan.now e.0 step iteration block.now (with_values scene.old.values) (quiet cells.old)).cells) }
-    ensures sent { OnOk result (sent.new.items ≡ sent.old.items ++ (block_runs plan.now e.0 step iteration block.now (with_values scene.old.values) (quiet cells.old)).sent) }
+    ensures cells { OnOk result
+        (cells.new ≡ (block_runs plan.now e.0 step iteration block.now
+        (with_values scene.old.values) (quiet cells.old)).cells) }
+    ensures sent { OnOk result
+        (sent.new.items ≡ sent.old.items
+        ++ (block_runs plan.now e.0 step iteration block.now (with_values scene.old.values)
+        (quiet cells.old)).sent) }
     ensures err { OnErr result ((cells.new ≡ cells.old) × (sent.new.items ≡ sent.old.items)) }
 {
     sent.reserve(block.len())?;
@@ -232,7 +248,14 @@ fn run_top(
     requires element { e.0 < elements plan.now }
     requires index { index ≡ (place_of plan.now e.0).index }
     requires room { vec_len sent.old + length block.now ≤ vec_capacity sent.old }
-    ensures { record { run = record { scene = scene.new; cells = cells.new; slip = slip.new }; sent = sent.new.items } ≡ top_acts plan.now e.0 block.now (record { run = record { scene = scene.old; cells = cells.old; slip = slip.old }; sent = sent.old.items }) }
+    ensures { record {
+      run = record { scene = scene.new; cells = cells.new; slip = slip.new };
+      sent = sent.new.items;
+    } ≡ top_acts plan.now e.0 block.now
+        (record {
+          run = record { scene = scene.old; cells = cells.old; slip = slip.old };
+          sent = sent.old.items;
+        }) }
 {
     for stmt in block {
         match stmt {
@@ -280,8 +303,10 @@ fn target(plan: &Plan, entry: EntryId, e: ElementId, index: u32) -> Option<Eleme
 
 // What expressions compute, as a payload.
 fn payload_of(values: &[Expr], scene: &Scene, cells: &[i64], slip: &mut u8) -> Payload
-    ensures payload { result ≡ payload_of values.now (filled_of values.now (record { scene = scene.now; cells = cells.now; slip = slip.old })) }
-    ensures slip { slip.new ≡ (filled_of values.now (record { scene = scene.now; cells = cells.now; slip = slip.old })).slip }
+    ensures payload { result ≡ payload_of values.now
+        (filled_of values.now (record { scene = scene.now; cells = cells.now; slip = slip.old })) }
+    ensures slip { slip.new ≡ (filled_of values.now
+        (record { scene = scene.now; cells = cells.now; slip = slip.old })).slip }
 {
     let filled = filled(values, scene, cells, slip);
     Payload {
@@ -292,7 +317,8 @@ fn payload_of(values: &[Expr], scene: &Scene, cells: &[i64], slip: &mut u8) -> P
 
 // What expressions compute, 0 behind the last.
 fn filled(values: &[Expr], scene: &Scene, cells: &[i64], slip: &mut u8) -> [i64; 8]
-    ensures { record { values = result; slip = slip.new } ≡ filled_of values.now (record { scene = scene.now; cells = cells.now; slip = slip.old }) }
+    ensures { record { values = result; slip = slip.new }
+        ≡ filled_of values.now (record { scene = scene.now; cells = cells.now; slip = slip.old }) }
 {
     let mut filled = [0; 8];
     for (i, e) in values.iter().enumerate() {
@@ -315,7 +341,9 @@ pub(crate) fn put(values: &mut [i64], i: usize, value: i64)
 // Runs statements in order.
 #[cycle(statements)]
 fn run_all(block: &[Stmt], scene: &mut Scene, cells: &mut Items<i64>, slip: &mut u8)
-    ensures { record { scene = scene.new; cells = cells.new; slip = slip.new } ≡ in_order (map act block.now) (record { scene = scene.old; cells = cells.old; slip = slip.old }) }
+    ensures { record { scene = scene.new; cells = cells.new; slip = slip.new }
+        ≡ in_order (map act block.now)
+        (record { scene = scene.old; cells = cells.old; slip = slip.old }) }
 {
     for stmt in block {
         run_one(stmt, scene, cells, slip);
@@ -325,7 +353,8 @@ fn run_all(block: &[Stmt], scene: &mut Scene, cells: &mut Items<i64>, slip: &mut
 // Runs one statement. A send or a contribution does nothing here, since it stands directly in a block.
 #[cycle(statements)]
 fn run_one(stmt: &Stmt, scene: &mut Scene, cells: &mut Items<i64>, slip: &mut u8)
-    ensures { record { scene = scene.new; cells = cells.new; slip = slip.new } ≡ act stmt.now (record { scene = scene.old; cells = cells.old; slip = slip.old }) }
+    ensures { record { scene = scene.new; cells = cells.new; slip = slip.new }
+        ≡ act stmt.now (record { scene = scene.old; cells = cells.old; slip = slip.old }) }
 {
     match stmt {
         Stmt::Set { cell, value: e } => {
@@ -377,7 +406,8 @@ fn set_loop(scene: &mut Scene, slot: u8, i: i64)
 // Writes a value into a cell, where there is one.
 fn write(cells: &mut Items<i64>, slip: &mut u8, at: usize, computed: Computed)
     ensures cells { cells.new ≡ slice_set cells.old at (int_wrap w64 computed.value) }
-    ensures slip { slip.new ≡ (if nat_lt at (length cells.old) then least_kind slip.old computed.slip else least_kind (least_kind slip.old computed.slip) write) }
+    ensures slip { slip.new ≡ (if nat_lt at (length cells.old) then least_kind slip.old
+        computed.slip else least_kind (least_kind slip.old computed.slip) write) }
 {
     *slip = least_kind(*slip, computed.slip);
     if at < cells.len() {
@@ -396,7 +426,9 @@ fn write_in(
     place: i64,
     computed: Computed,
 )
-    ensures { (scene : Scenes) → record { scene = scene; cells = cells.new; slip = slip.new } ≡ written_in at count place computed (record { scene = scene; cells = cells.old; slip = slip.old }) }
+    ensures { (scene : Scenes) → record { scene = scene; cells = cells.new; slip = slip.new }
+        ≡ written_in at count place computed
+        (record { scene = scene; cells = cells.old; slip = slip.old }) }
 {
     if 0 <= place && place < i64::from(count) {
         write(cells, slip, at as usize + place as usize, computed);

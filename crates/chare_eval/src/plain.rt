@@ -67,7 +67,9 @@ fn run_rounds(
     sent: &mut Vec<Outgoing>,
 ) -> Result<(), Memory>
     requires { length all.old ≡ elements plan.now }
-    ensures { OnOk result (record { states = all.new; tables = tables_of mail.new } ≡ rounds_run plan.now plan.now.iterations (record { states = all.old; tables = tables_of mail.old })) }
+    ensures { OnOk result (record { states = all.new; tables = tables_of mail.new }
+        ≡ rounds_run plan.now plan.now.iterations
+        (record { states = all.old; tables = tables_of mail.old })) }
 {
     for k in 0..plan.iterations {
         run_round(plan, k, all, mail, scene, sent)?;
@@ -85,7 +87,8 @@ fn run_round(
     sent: &mut Vec<Outgoing>,
 ) -> Result<(), Memory>
     requires { length all.old ≡ elements plan.now }
-    ensures { OnOk result (record { states = all.new; tables = tables_of mail.new } ≡ round_runs plan.now k (record { states = all.old; tables = tables_of mail.old })) }
+    ensures { OnOk result (record { states = all.new; tables = tables_of mail.new }
+        ≡ round_runs plan.now k (record { states = all.old; tables = tables_of mail.old })) }
 {
     mail.begin(plan)?;
     run_steps(plan, k, all, mail, scene, sent)
@@ -102,7 +105,9 @@ fn run_steps(
     sent: &mut Vec<Outgoing>,
 ) -> Result<(), Memory>
     requires { length all.old ≡ elements plan.now }
-    ensures { OnOk result (record { states = all.new; tables = tables_of mail.new } ≡ steps_run plan.now k (steps_in_round plan.now) (record { states = all.old; tables = tables_of mail.old })) }
+    ensures { OnOk result (record { states = all.new; tables = tables_of mail.new }
+        ≡ steps_run plan.now k (steps_in_round plan.now)
+        (record { states = all.old; tables = tables_of mail.old })) }
 {
     for s in 0..plan.steps_in_round() {
         run_elements(plan, s, k, all, mail, scene, sent)?;
@@ -122,7 +127,9 @@ fn run_elements(
     sent: &mut Vec<Outgoing>,
 ) -> Result<(), Memory>
     requires { length all.old ≡ elements plan.now }
-    ensures { OnOk result (record { states = all.new; tables = tables_of mail.new } ≡ elements_run plan.now s k (elements plan.now) (record { states = all.old; tables = tables_of mail.old })) }
+    ensures { OnOk result (record { states = all.new; tables = tables_of mail.new }
+        ≡ elements_run plan.now s k (elements plan.now)
+        (record { states = all.old; tables = tables_of mail.old })) }
 {
     for e in 0..plan.elements() {
         run_step(
@@ -152,7 +159,8 @@ fn run_step(
     sent: &mut Vec<Outgoing>,
 ) -> Result<(), Memory>
     requires { e.0 < elements plan.now }
-    ensures { OnOk result (record { cells = cells.new; sent = sent.new.items } ≡ step_of plan.now s k e.0 (box_of plan.now (tables_of mail.now) e.0) cells.old) }
+    ensures { OnOk result (record { cells = cells.new; sent = sent.new.items }
+        ≡ step_of plan.now s k e.0 (box_of plan.now (tables_of mail.now) e.0) cells.old) }
 {
     let place = plan.place(e);
     let array = plan.array_at(e, place);
@@ -174,7 +182,8 @@ fn run_step(
 
 // The parts of a step of an array's elements, none where there is no such step.
 fn parts_of(array: &Array, s: u8) -> &[Part]
-    ensures { result.now ≡ option_map_or (λ (step : Steps). step.parts) (slice_get array.now.steps s) [] }
+    ensures { result.now ≡ option_map_or (λ (step : Steps). step.parts)
+        (slice_get array.now.steps s) [] }
 {
     match array.steps.get(s as usize) {
         Some(step) => step.parts.as_slice(),
@@ -200,7 +209,9 @@ fn run_parts(
     requires element { e.0 < elements plan.now }
     requires place { place ≡ place_of plan.now e.0 }
     requires cols { cols ≡ cols_at plan.now e.0 }
-    ensures { OnOk result (record { cells = cells.new; sent = sent.new.items } ≡ parts_run plan.now e.0 s k (box_of plan.now (tables_of mail.now) e.0) parts.now (record { cells = cells.old; sent = sent.old.items })) }
+    ensures { OnOk result (record { cells = cells.new; sent = sent.new.items }
+        ≡ parts_run plan.now e.0 s k (box_of plan.now (tables_of mail.now) e.0) parts.now
+        (record { cells = cells.old; sent = sent.old.items })) }
 {
     for part in parts {
         mail.give(plan, e, place.index, part.need, &mut scene.values);

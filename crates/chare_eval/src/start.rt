@@ -46,7 +46,8 @@ fn start_values(alloc: Global, scene: &Scene, states: &[State]) -> Result<Vec<i6
 // The initial values of one state's cells, put behind others.
 fn push_starts(scene: &Scene, start: &Expr, cells: u32, values: &mut Vec<i64>) -> Result<(), Memory>
     requires { scene.now.loops ≡ replicate 32 (pos 0) }
-    ensures { OnOk result (values.new.items ≡ values.old.items ++ cell_starts scene.now start.now 0 cells) }
+    ensures { OnOk result (values.new.items ≡ values.old.items
+        ++ cell_starts scene.now start.now 0 cells) }
 {
     for which in 0..cells {
         values.push(start_value(scene, start, which))?;

@@ -27,7 +27,15 @@ pub struct Scene {
 impl Scene {
     /// A scene in which all is 0.
     pub const fn new() -> Scene
-        ensures { result ≡ record { index = 0; row = 0; col = 0; which = 0; iteration = 0; values = replicate 8 (pos 0); loops = replicate 32 (pos 0) } }
+        ensures { result ≡ record {
+          index = 0;
+          row = 0;
+          col = 0;
+          which = 0;
+          iteration = 0;
+          values = replicate 8 (pos 0);
+          loops = replicate 32 (pos 0);
+        } }
     {
         Scene {
             index: 0,

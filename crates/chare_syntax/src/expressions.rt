@@ -35,7 +35,8 @@ fn conjs_of(
     tokens: &[Token],
     levels: u32,
 ) -> Result<(Items<Conj>, &[Token]), ParseFault>
-    ensures exact { Gives (λ x. (x.0, x.1.now)) result (many (is_mark marks.Or) (behind marks.Or (conj_with (test_at levels))) tokens.now) }
+    ensures exact { Gives (λ x. (x.0, x.1.now)) result
+        (many (is_mark marks.Or) (behind marks.Or (conj_with (test_at levels))) tokens.now) }
     ensures shorter { IfOk result (λ x. length x.1.now ≤ length tokens.now) }
 {
     let mut rest = tokens;
@@ -69,7 +70,8 @@ fn tests_of(
     tokens: &[Token],
     levels: u32,
 ) -> Result<(Items<Test>, &[Token]), ParseFault>
-    ensures exact { Gives (λ x. (x.0, x.1.now)) result (many (is_mark marks.And) (behind marks.And (test_at levels)) tokens.now) }
+    ensures exact { Gives (λ x. (x.0, x.1.now)) result
+        (many (is_mark marks.And) (behind marks.And (test_at levels)) tokens.now) }
     ensures shorter { IfOk result (λ x. length x.1.now ≤ length tokens.now) }
 {
     let mut rest = tokens;
@@ -101,7 +103,8 @@ fn test_of(alloc: Global, tokens: &[Token], levels: u32) -> Result<(Test, &[Toke
 #[cycle(expression)]
 #[tactic(auto, unfolding(job_tree::specs::Reading::not_with))]
 fn not_of(alloc: Global, tokens: &[Token], levels: u32) -> Result<(Test, &[Token]), ParseFault>
-    ensures exact { Gives (λ x. (x.0, x.1.now)) result (not_with levels (deeper levels) tokens.now) }
+    ensures exact { Gives (λ x. (x.0, x.1.now)) result
+        (not_with levels (deeper levels) tokens.now) }
     ensures shorter { IfOk result (λ x. length x.1.now < length tokens.now) }
 {
     let (opened, rest) = open_of(tokens, levels, Mark::Not)?;
@@ -115,7 +118,8 @@ fn not_of(alloc: Global, tokens: &[Token], levels: u32) -> Result<(Test, &[Token
 #[cycle(expression)]
 #[tactic(auto, unfolding(job_tree::specs::Reading::compared_with))]
 fn compared_of(alloc: Global, tokens: &[Token], levels: u32) -> Result<(Test, &[Token]), ParseFault>
-    ensures exact { Gives (λ x. (x.0, x.1.now)) result (compared_with (unary_at levels) tokens.now) }
+    ensures exact { Gives (λ x. (x.0, x.1.now)) result
+        (compared_with (unary_at levels) tokens.now) }
     ensures shorter { IfOk result (λ x. length x.1.now < length tokens.now) }
 {
     let (left, rest) = sum_of(alloc, tokens, levels)?;
@@ -134,7 +138,8 @@ fn comparison_of(
     tokens: &[Token],
     levels: u32,
 ) -> Result<((CompareOp, Sum), &[Token]), ParseFault>
-    ensures exact { Gives (λ x. (x.0, x.1.now)) result (comparison_with (unary_at levels) tokens.now) }
+    ensures exact { Gives (λ x. (x.0, x.1.now)) result
+        (comparison_with (unary_at levels) tokens.now) }
     ensures shorter { IfOk result (λ x. length x.1.now < length tokens.now) }
 {
     let (op, rest) = compare_of(tokens)?;
@@ -162,7 +167,8 @@ fn sum_terms_of(
     tokens: &[Token],
     levels: u32,
 ) -> Result<(Items<SumTerm>, &[Token]), ParseFault>
-    ensures exact { Gives (λ x. (x.0, x.1.now)) result (many is_add (sum_term_with (unary_at levels)) tokens.now) }
+    ensures exact { Gives (λ x. (x.0, x.1.now)) result
+        (many is_add (sum_term_with (unary_at levels)) tokens.now) }
     ensures shorter { IfOk result (λ x. length x.1.now ≤ length tokens.now) }
 {
     let mut rest = tokens;
@@ -183,7 +189,8 @@ fn sum_term_of(
     tokens: &[Token],
     levels: u32,
 ) -> Result<(SumTerm, &[Token]), ParseFault>
-    ensures exact { Gives (λ x. (x.0, x.1.now)) result (sum_term_with (unary_at levels) tokens.now) }
+    ensures exact { Gives (λ x. (x.0, x.1.now)) result
+        (sum_term_with (unary_at levels) tokens.now) }
     ensures shorter { IfOk result (λ x. length x.1.now < length tokens.now) }
 {
     let ((at, op), rest) = add_of(tokens)?;
@@ -214,7 +221,8 @@ fn product_terms_of(
     tokens: &[Token],
     levels: u32,
 ) -> Result<(Items<ProductTerm>, &[Token]), ParseFault>
-    ensures exact { Gives (λ x. (x.0, x.1.now)) result (many is_mul (product_term_with (unary_at levels)) tokens.now) }
+    ensures exact { Gives (λ x. (x.0, x.1.now)) result
+        (many is_mul (product_term_with (unary_at levels)) tokens.now) }
     ensures shorter { IfOk result (λ x. length x.1.now ≤ length tokens.now) }
 {
     let mut rest = tokens;
@@ -235,7 +243,8 @@ fn product_term_of(
     tokens: &[Token],
     levels: u32,
 ) -> Result<(ProductTerm, &[Token]), ParseFault>
-    ensures exact { Gives (λ x. (x.0, x.1.now)) result (product_term_with (unary_at levels) tokens.now) }
+    ensures exact { Gives (λ x. (x.0, x.1.now)) result
+        (product_term_with (unary_at levels) tokens.now) }
     ensures shorter { IfOk result (λ x. length x.1.now < length tokens.now) }
 {
     let ((at, op), rest) = mul_of(tokens)?;
@@ -262,7 +271,8 @@ fn unary_of(alloc: Global, tokens: &[Token], levels: u32) -> Result<(Unary, &[To
 #[cycle(expression)]
 #[tactic(auto, unfolding(job_tree::specs::Reading::minus_with))]
 fn minus_of(alloc: Global, tokens: &[Token], levels: u32) -> Result<(Unary, &[Token]), ParseFault>
-    ensures exact { Gives (λ x. (x.0, x.1.now)) result (minus_with levels (deeper levels) tokens.now) }
+    ensures exact { Gives (λ x. (x.0, x.1.now)) result
+        (minus_with levels (deeper levels) tokens.now) }
     ensures shorter { IfOk result (λ x. length x.1.now < length tokens.now) }
 {
     let (opened, rest) = open_of(tokens, levels, Mark::Minus)?;
@@ -276,7 +286,8 @@ fn minus_of(alloc: Global, tokens: &[Token], levels: u32) -> Result<(Unary, &[To
 #[cycle(expression)]
 #[tactic(auto, unfolding(job_tree::specs::Reading::atom_with))]
 fn atom_of(alloc: Global, tokens: &[Token], levels: u32) -> Result<(Atom, &[Token]), ParseFault>
-    ensures exact { Gives (λ x. (x.0, x.1.now)) result (atom_with levels (deeper levels) tokens.now) }
+    ensures exact { Gives (λ x. (x.0, x.1.now)) result
+        (atom_with levels (deeper levels) tokens.now) }
     ensures shorter { IfOk result (λ x. length x.1.now < length tokens.now) }
 {
     if begins(tokens, Mark::OpenParen) {
@@ -309,7 +320,8 @@ fn leaf_of(tokens: &[Token]) -> Result<(Atom, &[Token]), ParseFault>
 #[cycle(expression)]
 #[tactic(auto, unfolding(job_tree::specs::Reading::group_with))]
 fn group_of(alloc: Global, tokens: &[Token], levels: u32) -> Result<(Atom, &[Token]), ParseFault>
-    ensures exact { Gives (λ x. (x.0, x.1.now)) result (group_with levels (deeper levels) tokens.now) }
+    ensures exact { Gives (λ x. (x.0, x.1.now)) result
+        (group_with levels (deeper levels) tokens.now) }
     ensures shorter { IfOk result (λ x. length x.1.now < length tokens.now) }
 {
     let (opened, rest) = open_of(tokens, levels, Mark::OpenParen)?;
@@ -324,7 +336,8 @@ fn group_of(alloc: Global, tokens: &[Token], levels: u32) -> Result<(Atom, &[Tok
 #[cycle(expression)]
 #[tactic(auto, unfolding(job_tree::specs::Reading::choice_with))]
 fn least_of(alloc: Global, tokens: &[Token], levels: u32) -> Result<(Atom, &[Token]), ParseFault>
-    ensures exact { Gives (λ x. (x.0, x.1.now)) result (choice_with levels (deeper levels) tokens.now) }
+    ensures exact { Gives (λ x. (x.0, x.1.now)) result
+        (choice_with levels (deeper levels) tokens.now) }
     ensures shorter { IfOk result (λ x. length x.1.now < length tokens.now) }
 {
     let ((at, choice), rest) = choice_of(tokens)?;
@@ -348,7 +361,8 @@ fn least_of(alloc: Global, tokens: &[Token], levels: u32) -> Result<(Atom, &[Tok
 #[cycle(expression)]
 #[tactic(auto, unfolding(job_tree::specs::Reading::named_with))]
 fn named_of(alloc: Global, tokens: &[Token], levels: u32) -> Result<(Atom, &[Token]), ParseFault>
-    ensures exact { Gives (λ x. (x.0, x.1.now)) result (named_with levels (deeper levels) tokens.now) }
+    ensures exact { Gives (λ x. (x.0, x.1.now)) result
+        (named_with levels (deeper levels) tokens.now) }
     ensures shorter { IfOk result (λ x. length x.1.now < length tokens.now) }
 {
     let (name, rest) = name_of(tokens)?;
@@ -368,7 +382,8 @@ pub fn index_of(
     tokens: &[Token],
     levels: u32,
 ) -> Result<(Expr, &[Token]), ParseFault>
-    ensures exact { Gives (λ x. (x.0, x.1.now)) result (index_with levels (deeper levels) tokens.now) }
+    ensures exact { Gives (λ x. (x.0, x.1.now)) result
+        (index_with levels (deeper levels) tokens.now) }
     ensures shorter { IfOk result (λ x. length x.1.now < length tokens.now) }
 {
     let (opened, rest) = open_of(tokens, levels, Mark::OpenBracket)?;

@@ -37,7 +37,8 @@ pub fn tokens(alloc: Global, text: &[u8]) -> Result<Vec<Token>, Memory>
 
 // Puts a piece's token at the end, and tells the piece's length unless the token is the last.
 fn add(all: &mut Vec<Token>, piece: Piece, at: u32) -> Result<Option<u32>, Memory>
-    ensures { IfOk result (λ len. (len ≡ len_of piece) × (all.new.items ≡ all.old.items ++ piece_tokens piece at)) }
+    ensures { IfOk result (λ len. (len ≡ len_of piece)
+        × (all.new.items ≡ all.old.items ++ piece_tokens piece at)) }
 {
     match piece {
         Piece::Blank(len) => Ok(Some(len)),

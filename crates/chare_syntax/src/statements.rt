@@ -21,7 +21,8 @@ fn exprs_of(
     tokens: &[Token],
     levels: u32,
 ) -> Result<(Items<Expr>, &[Token]), ParseFault>
-    ensures exact { Gives (λ x. (x.0, x.1.now)) result (many (is_mark marks.Comma) (behind marks.Comma (expr_at levels)) tokens.now) }
+    ensures exact { Gives (λ x. (x.0, x.1.now)) result
+        (many (is_mark marks.Comma) (behind marks.Comma (expr_at levels)) tokens.now) }
     ensures shorter { IfOk result (λ x. length x.1.now ≤ length tokens.now) }
 {
     let mut rest = tokens;
@@ -92,7 +93,8 @@ fn target_index_of(
     tokens: &[Token],
     levels: u32,
 ) -> Result<(Option<Expr>, &[Token]), ParseFault>
-    ensures exact { Gives (λ x. (x.0, x.1.now)) result (optional (is_mark marks.OpenBracket) (index_with levels (deeper levels)) tokens.now) }
+    ensures exact { Gives (λ x. (x.0, x.1.now)) result
+        (optional (is_mark marks.OpenBracket) (index_with levels (deeper levels)) tokens.now) }
     ensures shorter { IfOk result (λ x. length x.1.now ≤ length tokens.now) }
 {
     if !begins(tokens, Mark::OpenBracket) {
@@ -128,7 +130,8 @@ fn assign_of(
 #[cycle(statement)]
 #[tactic(auto, unfolding(job_tree::specs::Reading::stmt_with))]
 fn stmt_of(alloc: Global, tokens: &[Token], levels: u32) -> Result<(StmtDecl, &[Token]), ParseFault>
-    ensures exact { Gives (λ x. (x.0, x.1.now)) result (stmt_with levels (inner levels) tokens.now) }
+    ensures exact { Gives (λ x. (x.0, x.1.now)) result
+        (stmt_with levels (inner levels) tokens.now) }
     ensures shorter { IfOk result (λ x. length x.1.now < length tokens.now) }
 {
     if begins(tokens, Mark::If) {
@@ -167,7 +170,8 @@ fn else_of(
     tokens: &[Token],
     levels: u32,
 ) -> Result<(Option<Block>, &[Token]), ParseFault>
-    ensures exact { Gives (λ x. (x.0, x.1.now)) result (else_with levels (inner levels) tokens.now) }
+    ensures exact { Gives (λ x. (x.0, x.1.now)) result
+        (else_with levels (inner levels) tokens.now) }
     ensures shorter { IfOk result (λ x. length x.1.now ≤ length tokens.now) }
 {
     if !begins(tokens, Mark::Else) {

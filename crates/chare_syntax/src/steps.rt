@@ -16,7 +16,8 @@ use std::alloc::Global;
 
 // Reads names behind commas.
 fn more_names_of(alloc: Global, tokens: &[Token]) -> Result<(Items<Span>, &[Token]), ParseFault>
-    ensures exact { Gives (λ x. (x.0, x.1.now)) result (many (is_mark marks.Comma) (behind marks.Comma name_at) tokens.now) }
+    ensures exact { Gives (λ x. (x.0, x.1.now)) result
+        (many (is_mark marks.Comma) (behind marks.Comma name_at) tokens.now) }
     ensures shorter { IfOk result (λ x. length x.1.now ≤ length tokens.now) }
 {
     let mut rest = tokens;

@@ -35,7 +35,9 @@ pub fn assemble<M: Placement>(
     requires nodes { length pieces.now ≡ M.count map.now }
     ensures exact { IfOk result (λ bytes. bytes ≡ assembled plan.now (M.place map.now) pieces.now) }
     // pieces of the definition make its checkpoint
-    ensures checkpoint { (lines : List Flip) (k : ℕ) → ArePieces plan.now (M.place map.now) lines k pieces.now → IfOk result (λ bytes. bytes ≡ pack plan.now k (fold plan.now lines k)) }
+    ensures checkpoint { (lines : List Flip) (k : ℕ)
+        → ArePieces plan.now (M.place map.now) lines k pieces.now
+        → IfOk result (λ bytes. bytes ≡ pack plan.now k (fold plan.now lines k)) }
 {
     pieces_make_the_checkpoint();
     let mut ends = no_bytes_taken(alloc, map.nodes())?;
@@ -78,7 +80,8 @@ fn merge<M: Placement>(
     requires place { length (M.place map.now) ≡ elements plan.now }
     requires nodes { length pieces.now ≡ M.count map.now }
     requires ends { length ends.old.items ≡ M.count map.now }
-    ensures { OnOk result (out.new ≡ out.old ++ merged plan.now 0 (M.place map.now) (rests pieces.now ends.old.items)) }
+    ensures { OnOk result (out.new ≡ out.old
+        ++ merged plan.now 0 (M.place map.now) (rests pieces.now ends.old.items)) }
 {
     for e in 0..plan.elements() {
         let e = ElementId(e);

@@ -51,7 +51,8 @@ impl Store {
 
     /// The piece at iteration k, of two the base; None exactly where neither is at k.
     pub fn piece(&self, k: u64) -> Option<&Piece>
-        ensures { MatchOption result (piece_at k self.now ≡ None) (λ piece. piece_at k self.now ≡ Some piece.now) }
+        ensures { MatchOption result (piece_at k self.now ≡ None)
+            (λ piece. piece_at k self.now ≡ Some piece.now) }
     {
         match at(&self.base, k) {
             Some(piece) => Some(piece),
@@ -77,7 +78,8 @@ impl Store {
 
 // A piece, where it is there and at iteration k.
 fn at(kept: &Option<Piece>, k: u64) -> Option<&Piece>
-    ensures { MatchOption result (at_or k kept.now None ≡ None) (λ piece. at_or k kept.now None ≡ Some piece.now) }
+    ensures { MatchOption result (at_or k kept.now None ≡ None)
+        (λ piece. at_or k kept.now None ≡ Some piece.now) }
 {
     match kept {
         Some(piece) if piece.iteration == k => Some(piece),

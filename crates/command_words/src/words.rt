@@ -33,7 +33,11 @@ pub fn command_of(words: &[String]) -> Option<Command>
 
 // Reads the words behind the command.
 fn read_all(words: &[String]) -> Option<Reading>
-    ensures exact { result ≡ words_read (Some (record { given = record { nodes = None; every = None; schedule = None }; waits = None })) (map string_bytes words.now) }
+    ensures exact { result ≡ words_read
+        (Some (record {
+          given = record { nodes = None; every = None; schedule = None };
+          waits = None;
+        })) (map string_bytes words.now) }
     ensures fits { IfSome result (λ r. Fit r.given) }
 {
     let mut reading = given(Given::NONE);
@@ -168,7 +172,8 @@ fn give_schedule(given: Given, number: Option<u64>) -> Option<Given>
 
 // What stands behind a prefix of a word.
 fn behind<'a>(prefix: &[u8], word: &'a [u8]) -> Option<&'a [u8]>
-    ensures { MatchOption result (behind prefix.now word.now ≡ None) (λ rest. behind prefix.now word.now ≡ Some rest.now) }
+    ensures { MatchOption result (behind prefix.now word.now ≡ None)
+        (λ rest. behind prefix.now word.now ≡ Some rest.now) }
 {
     if word.len() < prefix.len() {
         return None;

@@ -79,7 +79,8 @@ impl Conductor {
         script: &Script,
         options: &Options,
     ) -> Result<Conductor, Memory>
-        ensures { IfOk result (λ c. c ≡ start_conductor (faults_of script.now) options.now plan.now.iterations) }
+        ensures { IfOk result (λ c. c
+            ≡ start_conductor (faults_of script.now) options.now plan.now.iterations) }
     {
         let ledger = Ledger::start(alloc, script, options, plan.iterations())?;
         let nodes = options.nodes as usize;
@@ -123,7 +124,8 @@ impl Conductor {
         letter: Letter,
     ) -> Result<Outbox, Memory>
         requires nodes { IsOf (M.count map.now) self.old }
-        ensures heard { IfOk result (λ out. record { conductor = self.new; out = out } ≡ conductor_heard letter self.old) }
+        ensures heard { IfOk result
+            (λ out. record { conductor = self.new; out = out } ≡ conductor_heard letter self.old) }
         ensures err { OnErr result (self.new.over ≡ true) }
         ensures over { self.old.over ≡ true → IsErr result }
     {
@@ -182,7 +184,9 @@ impl Conductor {
     ) -> Result<Outbox, Memory>
         requires place { length (M.place map.now) ≡ elements plan.now }
         requires nodes { IsOf (M.count map.now) self.old }
-        ensures did { IfOk result (λ out. record { conductor = self.new; out = out } ≡ conductor_did plan.now (M.place map.now) answer self.old) }
+        ensures did { IfOk result
+            (λ out. record { conductor = self.new; out = out }
+            ≡ conductor_did plan.now (M.place map.now) answer self.old) }
         ensures err { OnErr result (self.new.over ≡ true) }
         ensures over { self.old.over ≡ true → IsErr result }
     {
@@ -315,7 +319,8 @@ impl Conductor {
     ) -> Result<Outbox, Memory>
         requires place { length (M.place map.now) ≡ elements plan.now }
         requires nodes { length self.old.pieces ≡ M.count map.now }
-        ensures { IfOk result (λ out. record { conductor = self.new; out = out } ≡ conductor_did plan.now (M.place map.now) answer self.old) }
+        ensures { IfOk result (λ out. record { conductor = self.new; out = out }
+            ≡ conductor_did plan.now (M.place map.now) answer self.old) }
     {
         match self.wants() {
             CutMove::None => Ok(Outbox::new(alloc)),
@@ -431,7 +436,8 @@ impl Conductor {
     ) -> Result<Outbox, Memory>
         requires place { length (M.place map.now) ≡ elements plan.now }
         requires nodes { length self.old.pieces ≡ M.count map.now }
-        ensures { IfOk result (λ out. record { conductor = self.new; out = out } ≡ settled plan.now (M.place map.now) answer self.old) }
+        ensures { IfOk result (λ out. record { conductor = self.new; out = out }
+            ≡ settled plan.now (M.place map.now) answer self.old) }
     {
         match answer {
             CutAnswer::Nothing => self.settle_round(alloc, plan, map),
@@ -449,7 +455,8 @@ impl Conductor {
     ) -> Result<Outbox, Memory>
         requires place { length (M.place map.now) ≡ elements plan.now }
         requires nodes { length self.old.pieces ≡ M.count map.now }
-        ensures { IfOk result (λ out. record { conductor = self.new; out = out } ≡ settled_in plan.now (M.place map.now) self.old.phase self.old) }
+        ensures { IfOk result (λ out. record { conductor = self.new; out = out }
+            ≡ settled_in plan.now (M.place map.now) self.old.phase self.old) }
     {
         match self.phase {
             Phase::Quiet => Ok(Outbox::new(alloc)),
@@ -467,7 +474,8 @@ impl Conductor {
     ) -> Result<Outbox, Memory>
         requires place { length (M.place map.now) ≡ elements plan.now }
         requires nodes { length self.old.pieces ≡ M.count map.now }
-        ensures { IfOk result (λ out. record { conductor = self.new; out = out } ≡ settled_in plan.now (M.place map.now) (Phase.Agreed k) self.old) }
+        ensures { IfOk result (λ out. record { conductor = self.new; out = out }
+            ≡ settled_in plan.now (M.place map.now) (Phase.Agreed k) self.old) }
     {
         let least = least_difference(self.verdicts.as_slice());
         self.phase = Phase::Quiet;
@@ -486,7 +494,8 @@ impl Conductor {
         k: u64,
         element: ElementId,
     ) -> Result<Outbox, Memory>
-        ensures { IfOk result (λ out. record { conductor = self.new; out = out } ≡ differed k element self.old) }
+        ensures { IfOk result (λ out. record { conductor = self.new; out = out }
+            ≡ differed k element self.old) }
     {
         if can_rise(self.first) && can_rise(self.second) {
             self.record_difference(alloc, plan, k, element)
@@ -504,7 +513,8 @@ impl Conductor {
     ) -> Result<Outbox, Memory>
         requires first { IsTrue (can_rise self.old.first) }
         requires second { IsTrue (can_rise self.old.second) }
-        ensures { IfOk result (λ out. record { conductor = self.new; out = out } ≡ differed_by (unlawful self.old.ledger (Record.Differ k element)) k element self.old) }
+        ensures { IfOk result (λ out. record { conductor = self.new; out = out }
+            ≡ differed_by (unlawful self.old.ledger (Record.Differ k element)) k element self.old) }
     {
         if make_record(&mut self.ledger, plan, Record::Differ { k, element })? {
             self.go_back(alloc)
@@ -517,7 +527,8 @@ impl Conductor {
     fn go_back(&mut self, alloc: Global) -> Result<Outbox, Memory>
         requires first { IsTrue (can_rise self.old.first) }
         requires second { IsTrue (can_rise self.old.second) }
-        ensures { IfOk result (λ out. record { conductor = self.new; out = out } ≡ gone_back self.old) }
+        ensures { IfOk result (λ out. record { conductor = self.new; out = out }
+            ≡ gone_back self.old) }
     {
         self.raise_stamps();
         self.send_back(alloc)
@@ -533,7 +544,8 @@ impl Conductor {
     }
 
     fn send_back(&mut self, alloc: Global) -> Result<Outbox, Memory>
-        ensures { IfOk result (λ out. record { conductor = self.new; out = out } ≡ sent_back self.old) }
+        ensures { IfOk result (λ out. record { conductor = self.new; out = out }
+            ≡ sent_back self.old) }
     {
         self.forget_sights();
         order_back(
@@ -562,7 +574,8 @@ impl Conductor {
     ) -> Result<Outbox, Memory>
         requires place { length (M.place map.now) ≡ elements plan.now }
         requires nodes { length self.old.pieces ≡ M.count map.now }
-        ensures { IfOk result (λ out. record { conductor = self.new; out = out } ≡ accepted plan.now (M.place map.now) k self.old) }
+        ensures { IfOk result (λ out. record { conductor = self.new; out = out }
+            ≡ accepted plan.now (M.place map.now) k self.old) }
     {
         if make_record(&mut self.ledger, plan, Record::Accept { k })? {
             self.take_pieces(alloc, plan, map)
@@ -579,7 +592,8 @@ impl Conductor {
     ) -> Result<Outbox, Memory>
         requires place { length (M.place map.now) ≡ elements plan.now }
         requires nodes { length self.old.pieces ≡ M.count map.now }
-        ensures { IfOk result (λ out. record { conductor = self.new; out = out } ≡ taken (assembled plan.now (M.place map.now) self.old.pieces) self.old) }
+        ensures { IfOk result (λ out. record { conductor = self.new; out = out }
+            ≡ taken (assembled plan.now (M.place map.now) self.old.pieces) self.old) }
     {
         let bytes = assemble(alloc, plan, map, &self.pieces)?;
         self.take_base(alloc, plan, bytes)
@@ -587,7 +601,8 @@ impl Conductor {
 
     // The base has these bytes.
     fn take_base(&mut self, alloc: Global, plan: &Plan, bytes: Bytes) -> Result<Outbox, Memory>
-        ensures { IfOk result (λ out. record { conductor = self.new; out = out } ≡ taken bytes self.old) }
+        ensures { IfOk result (λ out. record { conductor = self.new; out = out }
+            ≡ taken bytes self.old) }
     {
         let k = self.ledger.base();
         self.marks.push(mark_of(k, bytes.as_slice()))?;
@@ -598,7 +613,8 @@ impl Conductor {
 
     // All slots go on from the base.
     fn go_on(&mut self, alloc: Global) -> Result<Outbox, Memory>
-        ensures { IfOk result (λ out. record { conductor = self.new; out = out } ≡ gone_on self.old) }
+        ensures { IfOk result (λ out. record { conductor = self.new; out = out }
+            ≡ gone_on self.old) }
     {
         self.reline_stamps();
         self.send_on(alloc)
@@ -612,7 +628,8 @@ impl Conductor {
     }
 
     fn send_on(&mut self, alloc: Global) -> Result<Outbox, Memory>
-        ensures { IfOk result (λ out. record { conductor = self.new; out = out } ≡ sent_on self.old) }
+        ensures { IfOk result (λ out. record { conductor = self.new; out = out }
+            ≡ sent_on self.old) }
     {
         self.forget_sights();
         order_on(
@@ -627,7 +644,8 @@ impl Conductor {
 
     // The run is done where the base is at the last iteration.
     fn finish(&mut self, plan: &Plan, bytes: Bytes, out: &mut Outbox) -> Result<(), Memory>
-        ensures { OnOk result (record { conductor = self.new; out = out.new } ≡ finished bytes (record { conductor = self.old; out = out.old })) }
+        ensures { OnOk result (record { conductor = self.new; out = out.new }
+            ≡ finished bytes (record { conductor = self.old; out = out.old })) }
     {
         if make_record(&mut self.ledger, plan, Record::Done)? {
             self.last = bytes;
@@ -643,8 +661,10 @@ impl Conductor {
 // Makes a record where the ledger takes it, and says whether it did.
 fn make_record(ledger: &mut Ledger, plan: &Plan, step: Record) -> Result<bool, Memory>
     ensures taken { IfOk result (λ taken. taken ≡ is_none (unlawful ledger.old.ledger step)) }
-    ensures ledger { OnOk result (ledger.new.ledger ≡ (made step (unlawful ledger.old.ledger step) ledger.old).ledger) }
-    ensures records { OnOk result (ledger.new.records ≡ (made step (unlawful ledger.old.ledger step) ledger.old).records) }
+    ensures ledger { OnOk result
+        (ledger.new.ledger ≡ (made step (unlawful ledger.old.ledger step) ledger.old).ledger) }
+    ensures records { OnOk result
+        (ledger.new.records ≡ (made step (unlawful ledger.old.ledger step) ledger.old).records) }
 {
     ledger.reserve(1)?;
     Ok(ledger.apply(plan, step).is_ok())

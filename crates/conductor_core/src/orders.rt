@@ -70,7 +70,8 @@ fn send_all(replica: u8, all: ToAll, nodes: u16, out: &mut Outbox) -> Result<(),
 
 // Stop to every slot.
 pub(crate) fn stop_all(nodes: u16, out: &mut Outbox) -> Result<(), Memory>
-    ensures { OnOk result (out.new ≡ (out.old ++ letters_to 0 Letter.Stop nodes) ++ letters_to 1 Letter.Stop nodes) }
+    ensures { OnOk result (out.new ≡ (out.old ++ letters_to 0 Letter.Stop nodes)
+        ++ letters_to 1 Letter.Stop nodes) }
 {
     send_all(0, ToAll::Stop, nodes, out)?;
     send_all(1, ToAll::Stop, nodes, out)?;

@@ -164,7 +164,8 @@ fn cell_form(word: &[u8]) -> Option<CellForm<'_>>
 
 // A number where there is a word. None where the word is no number.
 fn if_there(word: Option<&[u8]>) -> Option<Option<u128>>
-    ensures { result ≡ option_map (option_map capped) (if_there (option_map (λ x. x.now) word.entry)) }
+    ensures { result ≡ option_map (option_map capped)
+        (if_there (option_map (λ x. x.now) word.entry)) }
 {
     match word {
         Some(word) => Some(Some(number(word)?)),

@@ -115,7 +115,8 @@ fn add_line(
     nodes: u16,
 ) -> Result<(), ScriptFault>
     requires { length lines.old.items ≤ 64 }
-    ensures exact { Adds (added plan.now nodes number line.now lines.old.items) result lines.new.items }
+    ensures exact { Adds (added plan.now nodes number line.now lines.old.items) result
+        lines.new.items }
     ensures few { length lines.new.items ≤ 64 }
 {
     if !is_fault_line(line) {

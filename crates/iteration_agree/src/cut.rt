@@ -143,7 +143,8 @@ impl Cut {
         requires below { k ≤ (slot_of self.old slot).top }
         requires few { k < most_iterations }
         ensures answer { result ≡ leave (slot_of self.old slot) k }
-        ensures hold { (l : ℕ) → (result ≡ Hold l) ↔ ((limit (slot_of self.old slot) ≡ Some l) × (l ≤ k)) }
+        ensures hold { (l : ℕ) → (result ≡ Hold l)
+            ↔ ((limit (slot_of self.old slot) ≡ Some l) × (l ≤ k)) }
         ensures moved { self.new ≡ begun_by slot k self.old }
     {
         let at = slot_place(self.nodes, slot);
@@ -218,7 +219,8 @@ impl Cut {
         requires slot { HasSlot self.old slot }
         requires few { base ≤ most_iterations }
         // At most the floor, or the agreed iteration, that it saw in the round in which it reported.
-        requires back { ForSome (reported (slot_of self.old slot)) (λ _. BackTo base (slot_of self.old slot).seen) }
+        requires back { ForSome (reported (slot_of self.old slot))
+            (λ _. BackTo base (slot_of self.old slot).seen) }
         ensures { self.new ≡ rewound_by slot base self.old }
     {
         let at = slot_place(self.nodes, slot);
@@ -253,7 +255,8 @@ fn slot_place(nodes: u16, slot: SlotId) -> usize
 
 // The slots of a replica at the opening, behind what there is.
 fn add_slots(slots: &mut Vec<Slot>, replica: u8, nodes: u16) -> Result<(), Memory>
-    ensures { OnOk result (slots.new.items ≡ slots.old.items ++ replicate nodes (opening_slot replica)) }
+    ensures { OnOk result (slots.new.items ≡ slots.old.items
+        ++ replicate nodes (opening_slot replica)) }
 {
     for _ in 0..nodes {
         slots.push(opening_slot(replica))?;

@@ -46,7 +46,8 @@ impl Outbox {
 
     /// Takes out the first letter; None exactly where there is none, and then it stays empty. It takes no memory.
     pub fn take(&mut self) -> Option<Sent>
-        ensures { MatchOption result ((self.old ≡ []) × (self.new ≡ [])) (λ sent. self.old ≡ sent ∷ self.new) }
+        ensures { MatchOption result ((self.old ≡ []) × (self.new ≡ []))
+            (λ sent. self.old ≡ sent ∷ self.new) }
     {
         self.all.pop_front()
     }

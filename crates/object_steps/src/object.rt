@@ -168,7 +168,8 @@ impl Object {
     pub fn begin(&mut self)
         requires { self.old.step ≡ None }
         ensures exact { self.new ≡ begun self.old }
-        ensures fits { (p : Plan) → Fits p self.old → self.old.done < p.iterations → Fits p self.new }
+        ensures fits { (p : Plan) → Fits p self.old → self.old.done < p.iterations
+            → Fits p self.new }
     {
         self.step = Some(0);
     }
@@ -203,7 +204,8 @@ impl Object {
         requires fits { Fits plan.now self.old }
         requires ready { ready plan.now self.old ≡ ready_as.Step spot }
         ensures ok { OnOk result (self.new ≡ advanced plan.now self.old spot) }
-        ensures sent { OnOk result (effects.new ≡ effects.old ++ (ran plan.now self.old spot).sent) }
+        ensures sent { OnOk result
+            (effects.new ≡ effects.old ++ (ran plan.now self.old spot).sent) }
         ensures fits { Fits plan.now self.new }
         ensures err { OnErr result ((self.new ≡ self.old) × (effects.new ≡ effects.old)) }
     {
@@ -285,8 +287,14 @@ fn run(
     requires place { at.place ≡ place_of plan.now at.element.0 }
     requires surrounded { at.surrounded ≡ is_surrounded plan.now at.element.0 }
     requires cols { found.cols ≡ cols_at plan.now at.element.0 }
-    ensures cells { OnOk result (cells.new ≡ (part_runs plan.now at.entry.element.0 step at.entry.iteration (arrived_at plan.now at.entry.element.0 at.entry.iteration at.entry.mail.now) found.entry.part.now (quiet cells.old)).cells) }
-    ensures sent { OnOk result (effects.new ≡ effects.old ++ (part_runs plan.now at.entry.element.0 step at.entry.iteration (arrived_at plan.now at.entry.element.0 at.entry.iteration at.entry.mail.now) found.entry.part.now (quiet cells.old)).sent) }
+    ensures cells { OnOk result
+        (cells.new ≡ (part_runs plan.now at.entry.element.0 step at.entry.iteration
+        (arrived_at plan.now at.entry.element.0 at.entry.iteration at.entry.mail.now)
+        found.entry.part.now (quiet cells.old)).cells) }
+    ensures sent { OnOk result
+        (effects.new ≡ effects.old ++ (part_runs plan.now at.entry.element.0 step at.entry.iteration
+        (arrived_at plan.now at.entry.element.0 at.entry.iteration at.entry.mail.now)
+        found.entry.part.now (quiet cells.old)).sent) }
     ensures err { OnErr result ((cells.new ≡ cells.old) × (effects.new ≡ effects.old)) }
 {
     let edge = edge_given(plan, at, found.part.need);

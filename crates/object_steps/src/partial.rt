@@ -92,7 +92,8 @@ fn give(given: &mut [Option<i64>], left: &mut u32, member: usize, value: i64) ->
     requires within { member < length given.old }
     requires count { left.old ≡ missing given.old }
     ensures fresh { result ≡ not (is_some (given_at given.old member)) }
-    ensures given { given.new ≡ (if result then slice_set given.old member (Some value) else given.old) }
+    ensures given { given.new ≡ (if result then slice_set given.old member (Some value)
+        else given.old) }
     ensures count { left.new ≡ missing given.new }
 {
     match given[member] {

@@ -46,7 +46,9 @@ pub(crate) fn chosen(
     requires place { at.place ≡ place_of plan.now at.element.0 }
     requires surrounded { at.surrounded ≡ is_surrounded plan.now at.element.0 }
     requires few { length parts.now ≤ 8 }
-    ensures { result ≡ ready_from (arrived_at plan.now at.entry.element.0 at.entry.iteration at.entry.mail.now) step done.now 0 None parts.now }
+    ensures { result ≡ ready_from
+        (arrived_at plan.now at.entry.element.0 at.entry.iteration at.entry.mail.now) step done.now
+        0 None parts.now }
 {
     let mut missing = None;
     for (i, part) in parts.iter().enumerate() {
@@ -95,7 +97,8 @@ fn can_run(plan: &Plan, at: Standpoint<'_>, need: Need) -> bool
     requires element { at.element.0 < elements plan.now }
     requires place { at.place ≡ place_of plan.now at.element.0 }
     requires surrounded { at.surrounded ≡ is_surrounded plan.now at.element.0 }
-    ensures { result ≡ can_run (arrived_at plan.now at.entry.element.0 at.entry.iteration at.entry.mail.now) need }
+    ensures { result ≡ can_run
+        (arrived_at plan.now at.entry.element.0 at.entry.iteration at.entry.mail.now) need }
 {
     match need {
         Need::Nothing => true,
@@ -119,7 +122,8 @@ fn is_there(plan: &Plan, at: Standpoint<'_>, port: Port) -> bool
     requires element { at.element.0 < elements plan.now }
     requires place { at.place ≡ place_of plan.now at.element.0 }
     requires surrounded { at.surrounded ≡ is_surrounded plan.now at.element.0 }
-    ensures { result ≡ is_some (arrived_at plan.now at.entry.element.0 at.entry.iteration at.entry.mail.now port) }
+    ensures { result ≡ is_some
+        (arrived_at plan.now at.entry.element.0 at.entry.iteration at.entry.mail.now port) }
 {
     if at.mail.has(key_of(at, port)) {
         return true;

@@ -54,7 +54,8 @@ pub trait Sink {
     fn give(&mut self, bytes: &[u8]) -> Result<usize, Failed>
         ensures bound { IfOk result (λ n. n ≤ length bytes.now) }
         ensures some { IfOk result (λ n. 0 < length bytes.now → 0 < n) }
-        ensures ok { IfOk result (λ n. Appends (given self.old) (given self.new) (take n bytes.now)) }
+        ensures ok { IfOk result
+            (λ n. Appends (given self.old) (given self.new) (take n bytes.now)) }
         ensures err { OnErr result (Keeps (given self.old) (given self.new)) }
         ensures count { faults self.old ≤ faults self.new }
         ensures cause { OnErr result (Rose (faults self.old) (faults self.new)) };
@@ -87,8 +88,10 @@ pub fn read_up_to<S: Source>(
     ensures end { IfOk result (λ bytes. length bytes < limit → IsAtEnd (S.left source.new)) }
     ensures part { OnErr result (ConsumesPart (S.left source.old) (S.left source.new) limit) }
     ensures takes { S.takes source.new ≤ S.takes source.old + limit }
-    ensures each { IfOk result (λ bytes. S.takes source.new ≤ S.takes source.old + (length bytes + 1)) }
-    ensures cause { result ≡ Err ReadFault.Failed → Rose (S.faults source.old) (S.faults source.new) }
+    ensures each { IfOk result
+        (λ bytes. S.takes source.new ≤ S.takes source.old + (length bytes + 1)) }
+    ensures cause { result ≡ Err ReadFault.Failed
+        → Rose (S.faults source.old) (S.faults source.new) }
     ensures count { S.faults source.old ≤ S.faults source.new }
 {
     let mut all = Bytes::new(alloc);
@@ -110,11 +113,15 @@ fn take_some<S: Source>(
     all: &mut Bytes,
 ) -> Result<usize, ReadFault>
     ensures bound { IfOk result (λ n. n ≤ most) }
-    ensures bytes { IfOk result (λ n. (new : List ℕ) × (length new ≡ n) × (all.new ≡ all.old ++ new) × Consumes (S.left source.old) (S.left source.new) new) }
-    ensures end { IfOk result (λ n. n ≡ 0 → 0 < most → 0 < length buf.old → IsAtEnd (S.left source.new)) }
+    ensures bytes { IfOk result
+        (λ n. (new : List ℕ) × (length new ≡ n) × (all.new ≡ all.old ++ new)
+        × Consumes (S.left source.old) (S.left source.new) new) }
+    ensures end { IfOk result (λ n. n ≡ 0 → 0 < most → 0 < length buf.old
+        → IsAtEnd (S.left source.new)) }
     ensures part { OnErr result (ConsumesPart (S.left source.old) (S.left source.new) most) }
     ensures takes { S.takes source.new ≤ S.takes source.old + 1 }
-    ensures cause { result ≡ Err ReadFault.Failed → Rose (S.faults source.old) (S.faults source.new) }
+    ensures cause { result ≡ Err ReadFault.Failed
+        → Rose (S.faults source.old) (S.faults source.new) }
     ensures count { S.faults source.old ≤ S.faults source.new }
 {
     let room = most.min(buf.len());

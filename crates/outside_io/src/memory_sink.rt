@@ -63,18 +63,22 @@ impl Sink for MemorySink {
     fn give(&mut self, bytes: &[u8]) -> Result<usize, Failed>
         ensures bound { IfOk result (λ n. n ≤ length bytes.now) }
         ensures some { IfOk result (λ n. 0 < length bytes.now → 0 < n) }
-        ensures ok { IfOk result (λ n. self.new.bytes.items ≡ self.old.bytes.items ++ take n bytes.now) }
+        ensures ok { IfOk result
+            (λ n. self.new.bytes.items ≡ self.old.bytes.items ++ take n bytes.now) }
         ensures err { OnErr result (self.new.bytes.items ≡ self.old.bytes.items) }
         ensures count { self.old.faults ≤ self.new.faults }
         ensures cause { OnErr result (Rose self.old.faults self.new.faults) }
 
         // More than a sink promises: which calls fail, and how much the others take.
-        ensures fails { is_err result ≡ (list_any (λ n. n == self.old.calls) self.old.failing || ((self.old.room == 0) && not (length bytes.now == 0))) }
+        ensures fails { is_err result
+            ≡ (list_any (λ n. n == self.old.calls) self.old.failing
+            || ((self.old.room == 0) && not (length bytes.now == 0))) }
         ensures most { IfOk result (λ n. n ≡ min (length bytes.now) self.old.room) }
         ensures room { IfOk result (λ n. self.new.room + n ≡ self.old.room) }
         ensures room_stays { OnErr result (self.new.room ≡ self.old.room) }
         ensures calls { self.new.calls ≡ raised self.old.calls }
-        ensures faults { self.new.faults ≡ (if is_err result then raised self.old.faults else self.old.faults) }
+        ensures faults { self.new.faults
+            ≡ (if is_err result then raised self.old.faults else self.old.faults) }
         ensures failing { self.new.failing ≡ self.old.failing }
     {
         let call = self.calls;

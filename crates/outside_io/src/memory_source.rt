@@ -56,18 +56,24 @@ impl Source for MemorySource {
     /// Takes all that is left or that fits, unless the call is one that fails.
     fn take(&mut self, buf: &mut [u8]) -> Result<usize, Failed>
         ensures bound { IfOk result (λ n. n ≤ length buf.old) }
-        ensures ok { IfOk result (λ n. drop self.old.taken self.old.bytes ≡ take n buf.new ++ drop self.new.taken self.new.bytes) }
-        ensures end { IfOk result (λ n. n ≡ 0 → 0 < length buf.old → drop self.new.taken self.new.bytes ≡ []) }
-        ensures err { OnErr result (drop self.new.taken self.new.bytes ≡ drop self.old.taken self.old.bytes) }
+        ensures ok { IfOk result
+            (λ n. drop self.old.taken self.old.bytes ≡ take n buf.new
+            ++ drop self.new.taken self.new.bytes) }
+        ensures end { IfOk result
+            (λ n. n ≡ 0 → 0 < length buf.old → drop self.new.taken self.new.bytes ≡ []) }
+        ensures err { OnErr result
+            (drop self.new.taken self.new.bytes ≡ drop self.old.taken self.old.bytes) }
         ensures takes { self.new.calls ≡ raised self.old.calls }
         ensures count { self.old.faults ≤ self.new.faults }
         ensures cause { OnErr result (Rose self.old.faults self.new.faults) }
 
         // More than a source promises: which calls fail, and how much the others take.
         ensures fails { is_err result ≡ list_any (λ n. n == self.old.calls) self.old.failing }
-        ensures most { IfOk result (λ n. n ≡ min (length buf.old) (length self.old.bytes - self.old.taken)) }
+        ensures most { IfOk result
+            (λ n. n ≡ min (length buf.old) (length self.old.bytes - self.old.taken)) }
         ensures bytes { self.new.bytes ≡ self.old.bytes }
-        ensures faults { self.new.faults ≡ (if is_err result then raised self.old.faults else self.old.faults) }
+        ensures faults { self.new.faults
+            ≡ (if is_err result then raised self.old.faults else self.old.faults) }
         ensures failing { self.new.failing ≡ self.old.failing }
     {
         let call = self.calls;

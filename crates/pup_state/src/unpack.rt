@@ -48,8 +48,10 @@ pub fn unpack_element(
     requires few { length bytes.now < 4294967295 }
     ensures ok { IfOk result (λ u. IsRecord plan.now e.0 bytes.now at u.done u.cells u.next) }
     ensures only { GivesRecord plan.now e.0 bytes.now at result }
-    ensures fault { (fault : PupFault) → RecordCause plan.now e.0 bytes.now at fault → result ≡ Err fault }
-    ensures cause { IfErr result (λ fault. fault ≢ PupFault.Memory → RecordCause plan.now e.0 bytes.now at fault) }
+    ensures fault { (fault : PupFault) → RecordCause plan.now e.0 bytes.now at fault → result
+        ≡ Err fault }
+    ensures cause { IfErr result
+        (λ fault. fault ≢ PupFault.Memory → RecordCause plan.now e.0 bytes.now at fault) }
 {
     let rest = behind(bytes, at as usize);
     if let Some(fault) = record_fault(plan, e, None, rest, at) {
@@ -71,7 +73,8 @@ pub fn unpack_all(alloc: Global, plan: &Plan, bytes: &[u8]) -> Result<Image, Pup
     ensures shaped { IfOk result (λ image. Shaped plan.now image.all) }
     ensures only { GivesState plan.now bytes.now result }
     ensures fault { (fault : PupFault) → Cause plan.now bytes.now fault → result ≡ Err fault }
-    ensures cause { IfErr result (λ fault. fault ≢ PupFault.Memory → Cause plan.now bytes.now fault) }
+    ensures cause { IfErr result
+        (λ fault. fault ≢ PupFault.Memory → Cause plan.now bytes.now fault) }
 {
     if let Some(fault) = pack_fault(plan, bytes) {
         return Err(fault);
@@ -89,7 +92,8 @@ pub fn unpack_all(alloc: Global, plan: &Plan, bytes: &[u8]) -> Result<Image, Pup
 fn pack_fault(plan: &Plan, bytes: &[u8]) -> Option<PupFault>
     requires { length bytes.now < 4294967295 }
     ensures exact { result ≡ pack_fault plan.now bytes.now }
-    ensures long { MatchOption result (8 + sizes_from plan.now (elements plan.now) 0 ≤ length bytes.now) (λ _. ⊤) }
+    ensures long { MatchOption result
+        (8 + sizes_from plan.now (elements plan.now) 0 ≤ length bytes.now) (λ _. ⊤) }
 {
     if let Some(fault) = head_fault(plan, bytes) {
         return Some(fault);
@@ -124,7 +128,8 @@ fn head_fault(plan: &Plan, bytes: &[u8]) -> Option<PupFault>
 fn records_fault(plan: &Plan, records: &[u8]) -> Option<PupFault>
     requires { 8 + length records.now < 4294967295 }
     ensures exact { result ≡ faults_from plan.now (elements plan.now) 0 None 8 records.now }
-    ensures long { MatchOption result (sizes_from plan.now (elements plan.now) 0 ≤ length records.now) (λ _. ⊤) }
+    ensures long { MatchOption result
+        (sizes_from plan.now (elements plan.now) 0 ≤ length records.now) (λ _. ⊤) }
 {
     let mut first = None;
     let mut at = 8;
@@ -229,7 +234,11 @@ fn is_slip(steps: u8, done: u64, slip: Slip) -> bool
 
 fn slip_in(bytes: &[u8]) -> Slip
     requires { 28 ≤ length bytes.now }
-    ensures { result ≡ record { kind = number_at 1 14 bytes.now; step = number_at 1 15 bytes.now; iteration = number_at 8 16 bytes.now } }
+    ensures { result ≡ record {
+      kind = number_at 1 14 bytes.now;
+      step = number_at 1 15 bytes.now;
+      iteration = number_at 8 16 bytes.now;
+    } }
 {
     Slip {
         kind: u8_at(bytes, 14),
@@ -265,7 +274,8 @@ pub fn size_of(plan: &Plan, e: ElementId) -> u32
 #[tactic(auto, using(crate::proofs::Steps::states_next, crate::proofs::Steps::sizes_next))]
 fn states(alloc: Global, plan: &Plan, records: &[u8]) -> Result<Vec<Cells>, Memory>
     requires { sizes_from plan.now (elements plan.now) 0 ≤ length records.now }
-    ensures { IfOk result (λ all. all.items ≡ states_from plan.now (elements plan.now) 0 records.now) }
+    ensures { IfOk result (λ all. all.items
+        ≡ states_from plan.now (elements plan.now) 0 records.now) }
 {
     let mut all = Vec::with_capacity(alloc, plan.elements() as usize)?;
     let mut rest = records;

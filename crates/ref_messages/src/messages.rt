@@ -75,7 +75,8 @@ impl Messages {
     // The message under a key, where it lies.
     #[tactic(auto, using(crate::proofs::Beside::held_first, crate::proofs::Beside::held_rest))]
     pub(crate) fn get(&self, key: RefKey) -> Option<&Payload>
-        ensures { MatchOption result (lookup (same_key key) self.now ≡ None) (λ payload. lookup (same_key key) self.now ≡ Some payload.now) }
+        ensures { MatchOption result (lookup (same_key key) self.now ≡ None)
+            (λ payload. lookup (same_key key) self.now ≡ Some payload.now) }
     {
         match place_of(self.first.as_slice(), key) {
             Some(i) => Some(&self.first[i].1),

@@ -70,7 +70,8 @@ impl RefQueue {
 
     /// The message under a key, if one is held. It stays.
     pub fn get(&self, key: RefKey) -> Option<&Payload>
-        ensures { MatchOption result (message self.now key ≡ None) (λ payload. message self.now key ≡ Some payload.now) }
+        ensures { MatchOption result (message self.now key ≡ None)
+            (λ payload. message self.now key ≡ Some payload.now) }
     {
         self.held.get(key)
     }
@@ -83,7 +84,9 @@ impl RefQueue {
         ensures taken { OnOk result (Takes self.old key) }
         ensures refused { IfErr result (Refuses self.old key) }
         ensures ok { OnOk result (self.new ≡ put self.old key payload) }
-        ensures found { OnOk result ((k : RefKey) → message self.new k ≡ (if same_key key k then Some payload else message self.old k)) }
+        ensures found { OnOk result
+            ((k : RefKey) → message self.new k
+            ≡ (if same_key key k then Some payload else message self.old k)) }
         ensures err { OnErr result (self.new ≡ self.old) }
     {
         if key.iteration < self.since {
@@ -100,7 +103,8 @@ impl RefQueue {
     pub fn take(&mut self, key: RefKey) -> Option<Payload>
         ensures value { result ≡ message self.old key }
         ensures left { self.new ≡ without self.old key }
-        ensures found { (k : RefKey) → message self.new k ≡ (if same_key key k then None else message self.old k) }
+        ensures found { (k : RefKey) → message self.new k
+            ≡ (if same_key key k then None else message self.old k) }
     {
         self.held.remove(key)
     }
@@ -110,7 +114,8 @@ impl RefQueue {
     pub fn drop_below(&mut self, k: u64)
         requires { self.old.since ≤ k }
         ensures left { self.new ≡ from self.old k }
-        ensures found { (key : RefKey) → message self.new key ≡ (if nat_le k key.iteration then message self.old key else None) }
+        ensures found { (key : RefKey) → message self.new key
+            ≡ (if nat_le k key.iteration then message self.old key else None) }
     {
         self.held.drop_before(k);
         self.since = k;

@@ -28,7 +28,8 @@ pub(crate) fn due(base: u64, every: u64, iterations: u64) -> u64
 
 // The iteration of a checkpoint of both replicas.
 pub(crate) fn is_next(base: u64, every: u64, iterations: u64, k: u64) -> bool
-    ensures { result ≡ (nat_le (min (base + every) iterations) k && nat_lt base k && nat_le k iterations) }
+    ensures { result ≡ (nat_le (min (base + every) iterations) k && nat_lt base k
+        && nat_le k iterations) }
 {
     due(base, every, iterations) <= k && base < k && k <= iterations
 }

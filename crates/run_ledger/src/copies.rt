@@ -21,7 +21,8 @@ pub(crate) fn stands(copies: &[bool], node: u16) -> bool
 
 // A node's copy is lost, if it is one of this replica's.
 pub(crate) fn lose_if(on: bool, copies: &mut Vec<bool>, node: u16)
-    ensures exact { copies.new.items ≡ (if on then slice_set copies.old.items node false else copies.old.items) }
+    ensures exact { copies.new.items
+        ≡ (if on then slice_set copies.old.items node false else copies.old.items) }
     ensures length { length copies.new.items ≡ length copies.old.items }
 {
     let node = node as usize;

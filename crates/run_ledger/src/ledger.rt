@@ -73,7 +73,8 @@ impl Ledger {
         options: &Options,
         iterations: u64,
     ) -> Result<Ledger, Memory>
-        ensures opening { IfOk result (λ l. l.ledger ≡ opening_ledger (faults_of script.now) options.now iterations) }
+        ensures opening { IfOk result
+            (λ l. l.ledger ≡ opening_ledger (faults_of script.now) options.now iterations) }
         ensures records { IfOk result (λ l. l.records ≡ []) }
     {
         let lines = fresh_lines(alloc, script.as_slice())?;
@@ -111,7 +112,8 @@ impl Ledger {
     pub fn apply(&mut self, plan: &Plan, step: Record) -> Result<(), Unlawful>
         requires { 1 ≤ self.old.spare }
         ensures made { OnOk result (Moves self.old self.new step) }
-        ensures allowed { OnOk result (Tells plan.now self.old.ledger step → Allows plan.now self.old.ledger step) }
+        ensures allowed { OnOk result
+            (Tells plan.now self.old.ledger step → Allows plan.now self.old.ledger step) }
         ensures refused { IfErr result (λ u. unlawful self.old.ledger step ≡ Some u.which) }
         ensures stays { OnErr result (self.new ≡ self.old) }
     {
@@ -228,7 +230,8 @@ impl Ledger {
     // The same for a checkpoint of both replicas, whether they agree or not.
     fn checkpoint_unlawful(&self, k: u64) -> Option<u8>
         ensures accept { result ≡ unlawful self.now.ledger (Record.Accept k) }
-        ensures differ { (element : ElementId) → result ≡ unlawful self.now.ledger (Record.Differ k element) }
+        ensures differ { (element : ElementId) → result
+            ≡ unlawful self.now.ledger (Record.Differ k element) }
     {
         first_false(&[
             !self.ended,
@@ -369,7 +372,8 @@ impl Ledger {
 
     // A live crash line strikes: it is spent, its replica is down, and the slot's copy is lost.
     fn crash(&mut self, line: usize)
-        ensures { self.new ≡ record self.old { ledger = with_crash line (crash_at self.old.ledger.lines line) self.old.ledger } }
+        ensures { self.new ≡ record self.old
+            { ledger = with_crash line (crash_at self.old.ledger.lines line) self.old.ledger } }
     {
         if let Some(slot) = crash_at(self.lines.as_slice(), line) {
             let (first, second) = (slot.replica == 0, slot.replica == 1);

@@ -169,7 +169,8 @@ fn crash_slot(line: &LedgerLine) -> Option<SlotId>
 pub(crate) fn spend_at(lines: &mut Vec<LedgerLine>, at: usize)
     ensures exact { lines.new.items ≡ spent_at at lines.old.items }
     ensures length { length lines.new.items ≡ length lines.old.items }
-    ensures fewer { (slot : SlotId) → crash_at lines.old.items at ≡ Some slot → live_crashes lines.new.items + 1 ≡ live_crashes lines.old.items }
+    ensures fewer { (slot : SlotId) → crash_at lines.old.items at ≡ Some slot
+        → live_crashes lines.new.items + 1 ≡ live_crashes lines.old.items }
 {
     if at < lines.len() {
         lines[at].live = false;

@@ -41,7 +41,8 @@ pub(crate) fn put_done(
     last: &[u8],
 ) -> Result<(), Memory>
     requires { State plan.now last.now }
-    ensures { (done : ℕ) (all : List Cells) → IsPack plan.now last.now done all → OnOk result (out.new ≡ out.old ++ ending plan.now all) }
+    ensures { (done : ℕ) (all : List Cells) → IsPack plan.now last.now done all
+        → OnOk result (out.new ≡ out.old ++ ending plan.now all) }
 {
     pieces_are_small();
     let all = last_states(alloc, plan, last)?;
@@ -74,7 +75,8 @@ fn put_results(alloc: Global, out: &mut Bytes, plan: &Plan, all: &[Cells]) -> Re
 fn last_states(alloc: Global, plan: &Plan, bytes: &[u8]) -> Result<CellsList, Memory>
     requires checkpoint { State plan.now bytes.now }
     requires few { length bytes.now < 4294967295 }
-    ensures exact { (done : ℕ) (all : List Cells) → IsPack plan.now bytes.now done all → IfOk result (λ states. states ≡ all) }
+    ensures exact { (done : ℕ) (all : List Cells) → IsPack plan.now bytes.now done all
+        → IfOk result (λ states. states ≡ all) }
     ensures few { IfOk result (λ states. length states ≤ 4096) }
 {
     match unpack_all(alloc, plan, bytes) {

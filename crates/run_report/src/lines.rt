@@ -103,7 +103,8 @@ pub(crate) fn put_accepted(
     first_strikes: u64,
     second_strikes: u64,
 ) -> Result<(), Memory>
-    ensures { OnOk result (out.new ≡ out.old ++ accepted_line mark.now first_strikes second_strikes) }
+    ensures { OnOk result (out.new ≡ out.old
+        ++ accepted_line mark.now first_strikes second_strikes) }
 {
     put_named(alloc, out, b"accepted ", mark.k)?;
     put_mark(alloc, out, mark)?;

@@ -38,7 +38,8 @@ pub fn report(
     ending: &Ending,
 ) -> Result<Bytes, Memory>
     requires { IsEnding plan.now (faults_of script.now) options.now ending.now }
-    ensures { IfOk result (λ text. text ≡ report plan.now script.now options.now ending.now.records.items) }
+    ensures { IfOk result (λ text. text
+        ≡ report plan.now script.now options.now ending.now.records.items) }
 {
     let mut out = Bytes::new(alloc);
     put_first(alloc, &mut out, plan, options)?;
@@ -75,7 +76,8 @@ fn put_records(
     requires steps { StepsFrom plan.now ledger.old.ledger records.now }
     requires marks { marks.now ≡ marks_from plan.now ledger.old.ledger records.now }
     requires last { IsLast plan.now ledger.old.ledger records.now last.now }
-    ensures { OnOk result (out.new ≡ out.old ++ told plan.now script.now ledger.old.ledger records.now) }
+    ensures { OnOk result (out.new ≡ out.old
+        ++ told plan.now script.now ledger.old.ledger records.now) }
 {
     let mut marks = marks;
     for record in records {
@@ -109,7 +111,8 @@ fn put_record(
 ) -> Result<(), Memory>
     requires mark { IsMarkAt plan.now ledger.now.ledger step mark }
     requires last { IsLastAt plan.now ledger.now.ledger step last.now }
-    ensures { OnOk result (out.new ≡ out.old ++ record_lines plan.now script.now ledger.now.ledger step) }
+    ensures { OnOk result (out.new ≡ out.old
+        ++ record_lines plan.now script.now ledger.now.ledger step) }
 {
     // So the last bytes can be read back.
     folds_are_lawful();

@@ -54,7 +54,8 @@ fn answer_to_drill(
     requires bounded { options.nodes ≤ 32 }
     requires every { 1 ≤ options.every }
     requires strong { options.mode ≡ Strong }
-    ensures { IfOk result (λ answer. DueDrill options schedule input.now answer.status answer.text) }
+    ensures { IfOk result (λ answer. DueDrill options schedule input.now answer.status
+        answer.text) }
 {
     if input.len() > INPUT_LIMIT {
         return too_long(alloc);
@@ -77,7 +78,8 @@ fn answer_to_texts(
     requires strong { options.now.mode ≡ Strong }
     requires short_job { length job.now ≤ 262144 }
     requires short_script { length script.now ≤ 262144 }
-    ensures { IfOk result (λ answer. DueTexts options.now schedule job.now script.now answer.status answer.text) }
+    ensures { IfOk result (λ answer. DueTexts options.now schedule job.now script.now answer.status
+        answer.text) }
 {
     // So a text that is refused has no plan.
     refused_has_none();

@@ -35,7 +35,8 @@ pub fn drilled(
     requires bounded { options.now.nodes ≤ 32 }
     requires every { 1 ≤ options.now.every }
     requires strong { options.now.mode ≡ Strong }
-    ensures { IfOk result (λ answer. DueRun options.now schedule plan.now script.now answer.status answer.text) }
+    ensures { IfOk result (λ answer. DueRun options.now schedule plan.now script.now answer.status
+        answer.text) }
 {
     if plan.elements() < u32::from(options.nodes) {
         return too_many_nodes(alloc, options.nodes, plan.elements());
@@ -56,7 +57,8 @@ fn run(
     requires every { 1 ≤ options.now.every }
     requires strong { options.now.mode ≡ Strong }
     requires few { options.now.nodes ≤ elements plan.now }
-    ensures { IfOk result (λ answer. DueRun options.now schedule plan.now script.now answer.status answer.text) }
+    ensures { IfOk result (λ answer. DueRun options.now schedule plan.now script.now answer.status
+        answer.text) }
 {
     agreed_waits();
     reports_are_fault_free();

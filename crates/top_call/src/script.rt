@@ -32,7 +32,8 @@ pub(crate) fn scripted(
     requires every { 1 ≤ options.now.every }
     requires strong { options.now.mode ≡ Strong }
     requires short { length text.now ≤ 262144 }
-    ensures { IfOk result (λ answer. DueJob options.now schedule plan.now text.now answer.status answer.text) }
+    ensures { IfOk result (λ answer. DueJob options.now schedule plan.now text.now answer.status
+        answer.text) }
 {
     let script = match read_script(alloc, text, plan, options.nodes) {
         Ok(script) => script,

@@ -20,7 +20,9 @@ pub fn acr_quiet<S: Source, K: Sink>(
     source: &mut S,
     sink: &mut K,
 ) -> Status
-    ensures answer { Answers words.now (S.left source.old) (S.left source.new) (S.faults source.old) (S.faults source.new) (K.given sink.old) (K.given sink.new) (K.faults sink.old) (K.faults sink.new) result }
+    ensures answer { Answers words.now (S.left source.old) (S.left source.new) (S.faults source.old)
+        (S.faults source.new) (K.given sink.old) (K.given sink.new) (K.faults sink.old)
+        (K.faults sink.new) result }
     ensures takes { S.takes source.new ≤ S.takes source.old + 262145 }
     ensures unread { asked words.now ≡ None → S.takes source.new ≡ S.takes source.old }
 {
@@ -40,7 +42,8 @@ pub fn acr_quiet<S: Source, K: Sink>(
 
 // Gives a text, and answers its status, or that the sink failed.
 fn written<K: Sink>(sink: &mut K, status: Status, text: &[u8]) -> Status
-    ensures { Written (K.given sink.old) (K.given sink.new) (K.faults sink.old) (K.faults sink.new) status text.now result }
+    ensures { Written (K.given sink.old) (K.given sink.new) (K.faults sink.old) (K.faults sink.new)
+        status text.now result }
 {
     match write_all(sink, text) {
         Ok(()) => status,

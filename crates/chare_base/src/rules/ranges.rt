@@ -70,7 +70,8 @@ fn steps_in_range(
     states: &[State],
     steps: &[Step],
 ) -> bool
-    ensures { result ≡ list_all (step_in_range entries.now reductions.now array states.now) steps.now }
+    ensures { result ≡ list_all (step_in_range entries.now reductions.now array states.now)
+        steps.now }
 {
     steps.iter().all(|step| parts_in_range(
         entries,
@@ -88,7 +89,8 @@ fn parts_in_range(
     states: &[State],
     parts: &[Part],
 ) -> bool
-    ensures { result ≡ list_all (part_in_range entries.now reductions.now array states.now) parts.now }
+    ensures { result ≡ list_all (part_in_range entries.now reductions.now array states.now)
+        parts.now }
 {
     parts.iter().all(|part| part_in_range(entries, reductions, array, states, part))
 }

@@ -19,7 +19,8 @@ pub(crate) fn limits_hold(
     reductions: &[Reduction],
     answers: &[Answer],
 ) -> bool
-    ensures { result ≡ limits_hold name.now iterations arrays.now entries.now reductions.now answers.now }
+    ensures { result ≡ limits_hold name.now iterations arrays.now entries.now reductions.now
+        answers.now }
 {
     name_fits(name)
         && 1 <= iterations

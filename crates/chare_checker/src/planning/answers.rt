@@ -24,7 +24,8 @@ pub(crate) fn plan_answers(
     arrays: &[Array],
     answers: &[AnswerDecl],
 ) -> Result<Items<Answer>, Memory>
-    ensures { IfOk result (λ planned. planned ≡ map (answer_planned text.now names.now arrays.now) answers.now) }
+    ensures { IfOk result (λ planned. planned
+        ≡ map (answer_planned text.now names.now arrays.now) answers.now) }
 {
     let mut planned = Items::new(alloc);
     for answer in answers {

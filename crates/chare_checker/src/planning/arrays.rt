@@ -44,7 +44,8 @@ fn plan_array(
     first: u32,
     array: &ArrayDecl,
 ) -> Result<Array, Memory>
-    ensures { IfOk result (λ planned. planned ≡ array_planned text.now names.now number first array.now) }
+    ensures { IfOk result (λ planned. planned
+        ≡ array_planned text.now names.now number first array.now) }
 {
     match names.tables.get(number) {
         Some(table) => plan_with(alloc, text, names, table, first, array),
@@ -65,7 +66,8 @@ fn plan_with(
     first: u32,
     array: &ArrayDecl,
 ) -> Result<Array, Memory>
-    ensures { IfOk result (λ planned. planned ≡ array_with text.now names.now table.now first array.now) }
+    ensures { IfOk result (λ planned. planned
+        ≡ array_with text.now names.now table.now first array.now) }
 {
     let name = Name::from_slice(alloc, bytes_at(text, array.name))?;
     let states = plan_states(alloc, text, names, table, array.states.as_slice())?;

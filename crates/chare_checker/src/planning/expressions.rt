@@ -27,7 +27,9 @@ pub(crate) fn plan_expr(
     loops: &[Span],
     expr: &tree::Expr,
 ) -> Result<Expr, Memory>
-    ensures { IfOk result (λ e. e ≡ expr_planned scope.now.text.now scope.now.table.now scope.now.params.now loops.now expr.now) }
+    ensures { IfOk result (λ e. e
+        ≡ expr_planned scope.now.text.now scope.now.table.now scope.now.params.now loops.now
+        expr.now) }
 {
     let first = plan_conj(alloc, scope, loops, &expr.first)?;
     let others = plan_conjs(alloc, scope, loops, expr.others.as_slice())?;
@@ -42,7 +44,9 @@ fn plan_conjs(
     loops: &[Span],
     conjs: &[Conj],
 ) -> Result<Items<Expr>, Memory>
-    ensures { IfOk result (λ es. es ≡ map (conj_planned scope.now.text.now scope.now.table.now scope.now.params.now loops.now) conjs.now) }
+    ensures { IfOk result (λ es. es
+        ≡ map (conj_planned scope.now.text.now scope.now.table.now scope.now.params.now loops.now)
+        conjs.now) }
 {
     let mut planned = Items::new(alloc);
     for conj in conjs {
@@ -53,7 +57,9 @@ fn plan_conjs(
 
 #[cycle(expressions)]
 fn plan_conj(alloc: Global, scope: &Scope<'_>, loops: &[Span], conj: &Conj) -> Result<Expr, Memory>
-    ensures { IfOk result (λ e. e ≡ conj_planned scope.now.text.now scope.now.table.now scope.now.params.now loops.now conj.now) }
+    ensures { IfOk result (λ e. e
+        ≡ conj_planned scope.now.text.now scope.now.table.now scope.now.params.now loops.now
+        conj.now) }
 {
     let first = plan_test(alloc, scope, loops, conj.first.get())?;
     let others = plan_tests(alloc, scope, loops, conj.others.as_slice())?;
@@ -68,7 +74,9 @@ fn plan_tests(
     loops: &[Span],
     tests: &[Test],
 ) -> Result<Items<Expr>, Memory>
-    ensures { IfOk result (λ es. es ≡ map (test_planned scope.now.text.now scope.now.table.now scope.now.params.now loops.now) tests.now) }
+    ensures { IfOk result (λ es. es
+        ≡ map (test_planned scope.now.text.now scope.now.table.now scope.now.params.now loops.now)
+        tests.now) }
 {
     let mut planned = Items::new(alloc);
     for test in tests {
@@ -79,7 +87,9 @@ fn plan_tests(
 
 #[cycle(expressions)]
 fn plan_test(alloc: Global, scope: &Scope<'_>, loops: &[Span], test: &Test) -> Result<Expr, Memory>
-    ensures { IfOk result (λ e. e ≡ test_planned scope.now.text.now scope.now.table.now scope.now.params.now loops.now test.now) }
+    ensures { IfOk result (λ e. e
+        ≡ test_planned scope.now.text.now scope.now.table.now scope.now.params.now loops.now
+        test.now) }
 {
     match test {
         Test::Not { operand, .. } => {
@@ -98,7 +108,9 @@ fn plan_test(alloc: Global, scope: &Scope<'_>, loops: &[Span], test: &Test) -> R
 
 #[cycle(expressions)]
 fn plan_sum(alloc: Global, scope: &Scope<'_>, loops: &[Span], sum: &Sum) -> Result<Expr, Memory>
-    ensures { IfOk result (λ e. e ≡ sum_planned scope.now.text.now scope.now.table.now scope.now.params.now loops.now sum.now) }
+    ensures { IfOk result (λ e. e
+        ≡ sum_planned scope.now.text.now scope.now.table.now scope.now.params.now loops.now
+        sum.now) }
 {
     let first = plan_product(alloc, scope, loops, sum.first.get())?;
     let others = plan_terms(alloc, scope, loops, sum.others.as_slice())?;
@@ -113,7 +125,9 @@ fn plan_terms(
     loops: &[Span],
     terms: &[SumTerm],
 ) -> Result<Items<Term>, Memory>
-    ensures { IfOk result (λ ts. ts ≡ map (term_planned scope.now.text.now scope.now.table.now scope.now.params.now loops.now) terms.now) }
+    ensures { IfOk result (λ ts. ts
+        ≡ map (term_planned scope.now.text.now scope.now.table.now scope.now.params.now loops.now)
+        terms.now) }
 {
     let mut planned = Items::new(alloc);
     for term in terms {
@@ -129,7 +143,9 @@ fn plan_term(
     loops: &[Span],
     term: &SumTerm,
 ) -> Result<Term, Memory>
-    ensures { IfOk result (λ t. t ≡ term_planned scope.now.text.now scope.now.table.now scope.now.params.now loops.now term.now) }
+    ensures { IfOk result (λ t. t
+        ≡ term_planned scope.now.text.now scope.now.table.now scope.now.params.now loops.now
+        term.now) }
 {
     let value = plan_product(alloc, scope, loops, &term.value)?;
     let op = add_op(term.op);
@@ -143,7 +159,9 @@ fn plan_product(
     loops: &[Span],
     product: &Product,
 ) -> Result<Expr, Memory>
-    ensures { IfOk result (λ e. e ≡ product_planned scope.now.text.now scope.now.table.now scope.now.params.now loops.now product.now) }
+    ensures { IfOk result (λ e. e
+        ≡ product_planned scope.now.text.now scope.now.table.now scope.now.params.now loops.now
+        product.now) }
 {
     let first = plan_unary(alloc, scope, loops, &product.first)?;
     let others = plan_factors(alloc, scope, loops, product.others.as_slice())?;
@@ -158,7 +176,9 @@ fn plan_factors(
     loops: &[Span],
     factors: &[ProductTerm],
 ) -> Result<Items<Factor>, Memory>
-    ensures { IfOk result (λ fs. fs ≡ map (factor_planned scope.now.text.now scope.now.table.now scope.now.params.now loops.now) factors.now) }
+    ensures { IfOk result (λ fs. fs
+        ≡ map (factor_planned scope.now.text.now scope.now.table.now scope.now.params.now loops.now)
+        factors.now) }
 {
     let mut planned = Items::new(alloc);
     for factor in factors {
@@ -174,7 +194,9 @@ fn plan_factor(
     loops: &[Span],
     factor: &ProductTerm,
 ) -> Result<Factor, Memory>
-    ensures { IfOk result (λ f. f ≡ factor_planned scope.now.text.now scope.now.table.now scope.now.params.now loops.now factor.now) }
+    ensures { IfOk result (λ f. f
+        ≡ factor_planned scope.now.text.now scope.now.table.now scope.now.params.now loops.now
+        factor.now) }
 {
     let value = plan_unary(alloc, scope, loops, &factor.value)?;
     let op = mul_op(factor.op);
@@ -188,7 +210,9 @@ fn plan_unary(
     loops: &[Span],
     unary: &Unary,
 ) -> Result<Expr, Memory>
-    ensures { IfOk result (λ e. e ≡ unary_planned scope.now.text.now scope.now.table.now scope.now.params.now loops.now unary.now) }
+    ensures { IfOk result (λ e. e
+        ≡ unary_planned scope.now.text.now scope.now.table.now scope.now.params.now loops.now
+        unary.now) }
 {
     match unary {
         Unary::Minus { operand, .. } => {
@@ -201,7 +225,9 @@ fn plan_unary(
 
 #[cycle(expressions)]
 fn plan_atom(alloc: Global, scope: &Scope<'_>, loops: &[Span], atom: &Atom) -> Result<Expr, Memory>
-    ensures { IfOk result (λ e. e ≡ atom_planned scope.now.text.now scope.now.table.now scope.now.params.now loops.now atom.now) }
+    ensures { IfOk result (λ e. e
+        ≡ atom_planned scope.now.text.now scope.now.table.now scope.now.params.now loops.now
+        atom.now) }
 {
     match atom {
         Atom::Number(number) => Ok(Expr::Number(narrow63(number.value))),
@@ -232,7 +258,10 @@ fn plan_cell(
     name: Span,
     index: &tree::Expr,
 ) -> Result<Expr, Memory>
-    ensures { IfOk result (λ e. e ≡ placed (range_or_none (state_range scope.now.text.now scope.now.table.now name)) (expr_planned scope.now.text.now scope.now.table.now scope.now.params.now loops.now index.now)) }
+    ensures { IfOk result (λ e. e
+        ≡ placed (range_or_none (state_range scope.now.text.now scope.now.table.now name))
+        (expr_planned scope.now.text.now scope.now.table.now scope.now.params.now loops.now
+        index.now)) }
 {
     let range = range_or_none(state_range(scope.text, scope.table, name));
     let place = plan_expr(alloc, scope, loops, index)?;
@@ -251,7 +280,9 @@ pub(crate) fn plan_value(
     loops: &[Span],
     expr: &tree::Expr,
 ) -> Result<Expr, Memory>
-    ensures { IfOk result (λ e. e ≡ value_planned scope.now.text.now scope.now.table.now scope.now.params.now loops.now expr.now) }
+    ensures { IfOk result (λ e. e
+        ≡ value_planned scope.now.text.now scope.now.table.now scope.now.params.now loops.now
+        expr.now) }
 {
     let planned = plan_expr(alloc, scope, loops, expr)?;
     Ok(planned)
@@ -265,7 +296,9 @@ pub(crate) fn plan_place(
     loops: &[Span],
     index: &Option<tree::Expr>,
 ) -> Result<Option<Expr>, Memory>
-    ensures { IfOk result (λ e. e ≡ place_planned scope.now.text.now scope.now.table.now scope.now.params.now loops.now index.now) }
+    ensures { IfOk result (λ e. e
+        ≡ place_planned scope.now.text.now scope.now.table.now scope.now.params.now loops.now
+        index.now) }
 {
     match index {
         Some(index) => Ok(Some(plan_expr(alloc, scope, loops, index)?)),
@@ -281,7 +314,9 @@ pub(crate) fn plan_values(
     loops: &[Span],
     values: &Values,
 ) -> Result<Items<Expr>, Memory>
-    ensures { IfOk result (λ es. es ≡ values_planned scope.now.text.now scope.now.table.now scope.now.params.now loops.now values.now) }
+    ensures { IfOk result (λ es. es
+        ≡ values_planned scope.now.text.now scope.now.table.now scope.now.params.now loops.now
+        values.now) }
 {
     let mut planned = Items::new(alloc);
     planned.push(plan_expr(alloc, scope, loops, &values.first)?)?;
@@ -295,7 +330,9 @@ fn plan_exprs(
     loops: &[Span],
     exprs: &[tree::Expr],
 ) -> Result<Items<Expr>, Memory>
-    ensures { IfOk result (λ es. es ≡ map (expr_planned scope.now.text.now scope.now.table.now scope.now.params.now loops.now) exprs.now) }
+    ensures { IfOk result (λ es. es
+        ≡ map (expr_planned scope.now.text.now scope.now.table.now scope.now.params.now loops.now)
+        exprs.now) }
 {
     let mut planned = Items::new(alloc);
     for expr in exprs {
@@ -305,7 +342,8 @@ fn plan_exprs(
 }
 
 fn plan_name(scope: &Scope<'_>, loops: &[Span], name: Span) -> Expr
-    ensures { result ≡ name_planned scope.now.text.now scope.now.table.now scope.now.params.now loops.now name }
+    ensures { result ≡ name_planned scope.now.text.now scope.now.table.now scope.now.params.now
+        loops.now name }
 {
     match state_range(scope.text, scope.table, name) {
         Some(range) => Expr::Cell(range.at),
@@ -314,7 +352,8 @@ fn plan_name(scope: &Scope<'_>, loops: &[Span], name: Span) -> Expr
 }
 
 fn plan_local(text: &[u8], params: &[Span], loops: &[Span], name: Span) -> Expr
-    ensures { result ≡ local (local_named text.now params.now name) (local_named text.now loops.now name) }
+    ensures { result ≡ local (local_named text.now params.now name)
+        (local_named text.now loops.now name) }
 {
     match local_named(text, params, name) {
         Some(value) => Expr::Mail(narrow8(value as u64)),

@@ -31,7 +31,9 @@ pub(crate) fn plan_block(
     loops: &mut Vec<Span>,
     block: &Block,
 ) -> Result<Items<Stmt>, Memory>
-    ensures exact { IfOk result (λ planned. planned ≡ block_planned scope.now.text.now scope.now.names.now scope.now.table.now scope.now.params.now block.now loops.old.items) }
+    ensures exact { IfOk result
+        (λ planned. planned ≡ block_planned scope.now.text.now scope.now.names.now
+        scope.now.table.now scope.now.params.now block.now loops.old.items) }
     ensures loops { OnOk result (loops.new.items ≡ loops.old.items) }
 {
     plan_stmts(alloc, scope, loops, block.statements.as_slice())
@@ -44,7 +46,10 @@ fn plan_stmts(
     loops: &mut Vec<Span>,
     stmts: &[StmtDecl],
 ) -> Result<Items<Stmt>, Memory>
-    ensures exact { IfOk result (λ planned. planned ≡ each_planned (map (stmt_planned scope.now.text.now scope.now.names.now scope.now.table.now scope.now.params.now) stmts.now) loops.old.items) }
+    ensures exact { IfOk result
+        (λ planned. planned ≡ each_planned
+        (map (stmt_planned scope.now.text.now scope.now.names.now scope.now.table.now
+        scope.now.params.now) stmts.now) loops.old.items) }
     ensures loops { OnOk result (loops.new.items ≡ loops.old.items) }
 {
     let mut planned = Items::new(alloc);
@@ -61,7 +66,9 @@ fn plan_stmt(
     loops: &mut Vec<Span>,
     stmt: &StmtDecl,
 ) -> Result<Stmt, Memory>
-    ensures exact { IfOk result (λ planned. planned ≡ stmt_planned scope.now.text.now scope.now.names.now scope.now.table.now scope.now.params.now stmt.now loops.old.items) }
+    ensures exact { IfOk result
+        (λ planned. planned ≡ stmt_planned scope.now.text.now scope.now.names.now
+        scope.now.table.now scope.now.params.now stmt.now loops.old.items) }
     ensures loops { OnOk result (loops.new.items ≡ loops.old.items) }
 {
     match stmt {
@@ -103,7 +110,10 @@ fn plan_other(
     loops: &mut Vec<Span>,
     other: &Option<Block>,
 ) -> Result<Items<Stmt>, Memory>
-    ensures exact { IfOk result (λ planned. planned ≡ other_planned (option_map (block_planned scope.now.text.now scope.now.names.now scope.now.table.now scope.now.params.now) other.now) loops.old.items) }
+    ensures exact { IfOk result
+        (λ planned. planned ≡ other_planned
+        (option_map (block_planned scope.now.text.now scope.now.names.now scope.now.table.now
+        scope.now.params.now) other.now) loops.old.items) }
     ensures loops { OnOk result (loops.new.items ≡ loops.old.items) }
 {
     match other {
@@ -122,7 +132,10 @@ fn plan_for(
     high: SignedNum,
     block: &Block,
 ) -> Result<Stmt, Memory>
-    ensures exact { IfOk result (λ planned. planned ≡ stmts.For (narrow8 (length loops.old.items)) (signed64 low) (signed64 high) (block_planned scope.now.text.now scope.now.names.now scope.now.table.now scope.now.params.now block.now (loops.old.items ++ name ∷ []))) }
+    ensures exact { IfOk result
+        (λ planned. planned ≡ stmts.For (narrow8 (length loops.old.items)) (signed64 low)
+        (signed64 high) (block_planned scope.now.text.now scope.now.names.now scope.now.table.now
+        scope.now.params.now block.now (loops.old.items ++ name ∷ []))) }
     ensures loops { OnOk result (loops.new.items ≡ loops.old.items) }
 {
     let slot = narrow8(loops.len() as u64);
@@ -145,7 +158,11 @@ fn plan_assign(
     index: &Option<tree::Expr>,
     value: &tree::Expr,
 ) -> Result<Stmt, Memory>
-    ensures { IfOk result (λ planned. planned ≡ assigned (range_or_none (state_range scope.now.text.now scope.now.table.now target)) (place_planned scope.now.text.now scope.now.table.now scope.now.params.now loops.now index.now) (value_planned scope.now.text.now scope.now.table.now scope.now.params.now loops.now value.now)) }
+    ensures { IfOk result (λ planned. planned
+        ≡ assigned (range_or_none (state_range scope.now.text.now scope.now.table.now target))
+        (place_planned scope.now.text.now scope.now.table.now scope.now.params.now loops.now
+        index.now) (value_planned scope.now.text.now scope.now.table.now scope.now.params.now
+        loops.now value.now)) }
 {
     let range = range_or_none(state_range(scope.text, scope.table, target));
     let place = plan_place(alloc, scope, loops, index)?;
@@ -178,7 +195,10 @@ fn plan_send(
     entry: Span,
     values: &Values,
 ) -> Result<Stmt, Memory>
-    ensures { IfOk result (λ planned. planned ≡ stmts.Send (entry_meant (member scope.now.text.now scope.now.names.now array entry)) (values_planned scope.now.text.now scope.now.table.now scope.now.params.now loops.now values.now)) }
+    ensures { IfOk result (λ planned. planned
+        ≡ stmts.Send (entry_meant (member scope.now.text.now scope.now.names.now array entry))
+        (values_planned scope.now.text.now scope.now.table.now scope.now.params.now loops.now
+        values.now)) }
 {
     let entry = entry_meant(member(scope.text, scope.names, array, entry));
     let values = plan_values(alloc, scope, loops, values)?;
@@ -192,7 +212,11 @@ fn plan_contribute(
     name: Span,
     value: &tree::Expr,
 ) -> Result<Stmt, Memory>
-    ensures { IfOk result (λ planned. planned ≡ stmts.Contribute (reduction_meant (lookup scope.now.table.now (bytes_at scope.now.text.now name))) (value_planned scope.now.text.now scope.now.table.now scope.now.params.now loops.now value.now)) }
+    ensures { IfOk result (λ planned. planned
+        ≡ stmts.Contribute (reduction_meant
+        (lookup scope.now.table.now (bytes_at scope.now.text.now name)))
+        (value_planned scope.now.text.now scope.now.table.now scope.now.params.now loops.now
+        value.now)) }
 {
     let reduction = reduction_meant(scope.table.get(bytes_at(scope.text, name)));
     let value = plan_value(alloc, scope, loops, value)?;

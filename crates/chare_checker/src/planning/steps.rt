@@ -24,7 +24,8 @@ pub(crate) fn plan_steps(
     table: &Names,
     steps: &[StepDecl],
 ) -> Result<Items<Step>, Memory>
-    ensures { IfOk result (λ planned. planned ≡ map (step_planned text.now names.now table.now) steps.now) }
+    ensures { IfOk result (λ planned. planned
+        ≡ map (step_planned text.now names.now table.now) steps.now) }
 {
     let mut planned = Items::new(alloc);
     for step in steps {
@@ -41,7 +42,8 @@ fn plan_body(
     table: &Names,
     body: &StepBody,
 ) -> Result<Items<Part>, Memory>
-    ensures { IfOk result (λ planned. planned ≡ body_planned text.now names.now table.now body.now) }
+    ensures { IfOk result (λ planned. planned
+        ≡ body_planned text.now names.now table.now body.now) }
 {
     match body {
         StepBody::Block(block) => {
@@ -75,7 +77,8 @@ fn plan_parts(
     table: &Names,
     parts: &[PartDecl],
 ) -> Result<Items<Part>, Memory>
-    ensures { IfOk result (λ planned. planned ≡ map (part_planned text.now names.now table.now) parts.now) }
+    ensures { IfOk result (λ planned. planned
+        ≡ map (part_planned text.now names.now table.now) parts.now) }
 {
     let mut planned = Items::new(alloc);
     for part in parts {
@@ -116,7 +119,8 @@ fn plan_part(
     table: &Names,
     part: &PartDecl,
 ) -> Result<Part, Memory>
-    ensures { IfOk result (λ planned. planned ≡ part_planned text.now names.now table.now part.now) }
+    ensures { IfOk result (λ planned. planned
+        ≡ part_planned text.now names.now table.now part.now) }
 {
     let port = port_meant(table.get(bytes_at(text, part.port)));
     let params = names_listed(alloc, &part.names)?;
