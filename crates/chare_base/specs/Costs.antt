@@ -1,4 +1,4 @@
--- How many statements a step runs at most, where each loop's turns are counted and each test counts too.
+-- What a step costs: 1 for each statement, in both blocks of an `if`; a loop's turn costs 1 and its block.
 use Rattle.std.specs.Prelude.{ℕ, ◌+◌, ◌*◌, ℤ, pos, negsuc, ◌-ℤ◌, Bool, nat_le, min, List, [], ◌∷◌, map}
 use Rattle.std.specs.List.{list_all}
 use Rattle.chare_base.specs.declared.plan.Array.{Array}

@@ -40,7 +40,7 @@ pub record SourcesAndTargets : Type 0 where
 
 -- ---- what an element's steps need
 
--- a part of step s of element e needs the message of an entry that another element sends it
+-- a part of step s of element e needs the message of an entry that an element sends it
 pub record NeedsMessage (p : Plan) (x : EntryId) (e s : ℕ) (sender : ElementId) : Type 0 where
   pub entry : Entry
   pub is : entry_of p x.0 ≡ Some entry

@@ -131,7 +131,7 @@ before _ _ = false
 abbrev pub steps_in : List Array → ℕ → List Step
 steps_in arrays number = option_map_or (λ a. a.steps) (slice_get arrays number) []
 
--- a port is sent to once by elements of one array, and received from once by elements of another, in a later step
+-- a port is sent to once by its source array's elements, and received from once by its owner's, in a later step
 abbrev pub port_holds : List Array → Port → ℕ → ℕ → Bool
 port_holds arrays port source owner =
     steps_send port (steps_in arrays source) == 1 && steps_take port (steps_in arrays owner) == 1

@@ -17,7 +17,7 @@ meet a b = nat_lt a.at (b.at + b.count) && nat_lt b.at (a.at + a.count)
 abbrev pub range_of : ℕ → ℕ → Range
 range_of at count = record { at = at; count = count }
 
--- whether a cell of a range is meant
+-- whether a cell of a range is read, or written
 abbrev pub Cells : Type 0
 Cells = Range → Bool
 

@@ -7,7 +7,8 @@ use sqlite_items::Items;
 use std::alloc::Global;
 use std::marker::Model;
 
-/// What went wrong first in an element, and where: its kind, the step and the iteration. All 0 is nothing.
+/// What went wrong first in an element, and where: its kind, and the step and the iteration, both counted from 0. The
+/// kind is 1 for a division by zero, 2 for a read out of range and 3 for a write out of range. All 0 is nothing.
 #[derive(Clone, Copy, Debug, PartialEq, Eq)]
 pub struct Slip {
     pub kind: u8,

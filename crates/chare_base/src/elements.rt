@@ -39,7 +39,7 @@ impl Plan {
         self.iterations
     }
 
-    /// Where an element stands.
+    /// Where an element stands. For a number that no element has, `array` is the number of arrays.
     #[tactic(auto, unfolding(crate::specs::Elements::place_of), using(crate::proofs::Facts::arrays_few))]
     pub fn place(&self, e: ElementId) -> Place
         ensures { result ≡ place_of self.now e.0 }

@@ -24,7 +24,9 @@ pub enum AddOp {
 #[derive(Clone, Copy, Debug, PartialEq, Eq)]
 pub enum MulOp {
     Times,
+    /// The quotient, truncated toward 0. By 0 it is 0, and a division by zero.
     Divide,
+    /// The remainder, with the sign of the left operand. By 0 it is 0, and a division by zero.
     Remainder,
 }
 

@@ -2,7 +2,7 @@
 
 ghost use Rattle.chare_base.specs.Laws.{SourcesAndTargets, Waits, FirstStepIsFree, SendsAreDeclared, PartsAreApart, UsesAreWithin};
 
-/// The element that gets what another sends at an entry has that one as its source, and the other way round.
+/// The element that gets what an element sends at an entry has that one as its source, and the other way round.
 pub fn sources_and_targets()
     ensures { SourcesAndTargets }
 {}

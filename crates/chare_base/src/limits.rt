@@ -24,7 +24,7 @@ pub const OFFSET: i8 = 8;
 pub const STEPS: usize = 32;
 /// Parts of a step, at most.
 pub const PARTS: usize = 8;
-/// The greatest cost of a step: the statements that it runs, each loop's turns counted.
+/// The greatest cost of a step: 1 for each statement, in both blocks of an `if`; a loop's turn costs 1 and its block.
 pub const COST: u64 = 1_000_000;
 /// Loops around one another, at most.
 pub const LOOPS: usize = 32;

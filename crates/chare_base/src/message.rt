@@ -39,7 +39,7 @@ pub enum Source {
 /// What a message carries.
 #[derive(Clone, Copy, Debug, PartialEq, Eq)]
 pub struct Payload {
-    /// How many values there are, from 1 to 8. A total has one.
+    /// How many values there are: from 1 to 8, of which a total has one; 0 in `NONE`.
     pub count: u8,
     /// The values in the order they were sent; those past `count` are 0.
     pub values: [i64; 8],

@@ -166,7 +166,7 @@ pub struct Reduction {
 pub enum Answer {
     /// One number of all cells of a state in all elements: its array's number, and its place in that array.
     Over { how: How, array: u16, state: u16 },
-    /// One cell of one element.
+    /// One cell of one element, by its number in the element.
     At { element: ElementId, cell: u32 },
 }
 

@@ -24,7 +24,7 @@ mod ranges;
 mod sizes;
 
 impl Plan {
-    /// A plan of these fields, where the rules hold. None takes their memory back.
+    /// A plan of these fields, where the rules hold; else None, and the fields are dropped.
     #[tactic(auto, unfolding(crate::specs::Rules::rules_hold))]
     pub fn sealed(
         name: Name,

@@ -85,7 +85,7 @@ impl Bytes {
     }
 }
 
-/// The name of a job, an array or a state, as its bytes in ASCII.
+/// The name of a job, an array, a state, an entry or a reduction, as its bytes in ASCII.
 #[derive(Drop)]
 pub struct Name {
     bytes: Vec<u8>,

@@ -25,7 +25,9 @@ use std::alloc::Global;
 /// The plan of a tree that breaks no rule, or the first rule that it breaks: of the first class that has one, at
 /// its least place.
 ///
-/// The plan of a tree that breaks no rule keeps the rules of its type, so nothing but the classes is refused.
+/// The plan of a tree that breaks no rule keeps the rules of its type, so a tree is refused for a broken rule alone.
+///
+/// `Memory`: an allocation was refused.
 pub fn check(alloc: Global, ast: &Ast) -> Result<Plan, CheckFault>
     ensures { Checks ast.now.text ast.now.job result }
 {

@@ -7,7 +7,7 @@ ghost use Rattle.job_rules.specs.Costs.{block_costs, body_cost, parts_cost, step
 use crate::numbers::signed64;
 use job_tree::tree::{Block, PartDecl, StepBody, StepDecl, StmtDecl};
 
-/// How many statements a step runs at most, where each loop's turns are counted and each test counts too.
+/// What a step costs: 1 for each statement, in both blocks of an `if`; a loop's turn costs 1 and its block.
 pub(crate) fn step_cost(step: &StepDecl) -> u64
     ensures { result ≡ step_cost step.now }
 {

@@ -16,7 +16,7 @@ use job_tree::tree::{Atom, Conj, Expr, Here, Product, ProductTerm, Sum, SumTerm,
 /// Walks over an expression, whose names are those of an array's table, of a part's parameters and of the loops
 /// around it.
 ///
-/// `Memory`: an allocation was refused.
+/// `Memory`: an allocation was refused; the notes keep what was noted before.
 #[tactic(auto, unfolding(job_rules::specs::Expressions::value_walked))]
 pub(crate) fn walk_value(
     scope: &Scope,

@@ -1,4 +1,5 @@
-//! The plan of a job's tree. It is total: where the tree breaks a rule, the plan breaks one too, and no number wraps.
+//! The plan of a job's tree. It is total: a tree that breaks a rule has one too, which may break none, and no number
+//! wraps.
 
 ghost use Rattle.std.specs.Prelude.{◌≡◌, IfOk};
 ghost use Rattle.job_rules.specs.Planned.{planned};

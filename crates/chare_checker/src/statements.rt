@@ -19,7 +19,7 @@ use job_tree::tree::{Block, Expr, StmtDecl, Values};
 /// Walks over a block, whose names are those of the job, of an array's table, of a part's parameters and of the
 /// loops around it. A block of a loop or an `if` is nested.
 ///
-/// `Memory`: an allocation was refused.
+/// `Memory`: an allocation was refused; the notes keep what was noted before, and `loops` may have more names.
 #[cycle(statements)]
 pub(crate) fn walk_block(
     scope: &Scope,

@@ -20,7 +20,7 @@ use std::alloc::Global;
 
 /// Walks over a job, whose names are these.
 ///
-/// `Memory`: an allocation was refused.
+/// `Memory`: an allocation was refused; the notes keep what was noted before.
 #[tactic(auto, unfolding(job_rules::specs::Steps::job_walked))]
 pub(crate) fn walk_job(
     alloc: Global,

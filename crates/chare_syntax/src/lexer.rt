@@ -13,6 +13,8 @@ use std::alloc::Global;
 pub const GREATEST: u64 = 9_223_372_036_854_775_807;
 
 /// The tokens of a text. The last one is `End`, with the text's length as its place, `Bad` or `TooLarge`.
+///
+/// `Memory`: an allocation was refused.
 #[tactic(auto, unfolding(job_tree::specs::Tokens::tokens))]
 pub fn tokens(alloc: Global, text: &[u8]) -> Result<Vec<Token>, Memory>
     requires { length text.now < 2 ^ 32 }

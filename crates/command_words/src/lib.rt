@@ -1,4 +1,4 @@
-//! The words that a run of the program is asked for by: a command, then its options.
+//! The words of a call of the program: a command, then its options.
 //!
 //! `command_of` reads the words; its contract is the definition of the command grammar in `specs/Grammar`, a fold over
 //! the words. An option is two words, `--name value`, or one, `--name=value`; each stands at most once, in any order.

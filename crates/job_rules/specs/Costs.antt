@@ -1,4 +1,4 @@
--- How many statements a step runs at most, where each loop's turns are counted and each test counts too.
+-- What a step costs: 1 for each statement, in both blocks of an `if`; a loop's turn costs 1 and its block.
 use Rattle.std.specs.Prelude.{ℕ, ◌+◌, ◌*◌, ◌-ℤ◌, List, [], ◌∷◌, Option, Some, None}
 use Rattle.chare_base.specs.Costs.{capped, numbers_below, sum_from}
 use Rattle.job_tree.specs.declared.tree.Block.{Block}

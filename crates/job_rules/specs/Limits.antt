@@ -59,7 +59,7 @@ abbrev pub parts_over : ℕ → Found → List PartDecl → Found
 parts_over n found [] = found
 parts_over n found (part ∷ more) = parts_over (suc n) (sooner found (over Parts 8 (suc n) part.at)) more
 
--- A step that isn't an overlap has at most one part.
+-- A step that isn't an overlap has one part.
 abbrev pub body_over : Found → StepBody → Found
 body_over found (bodies.Overlap at parts) = parts_over 0 found parts
 body_over found _ = found

@@ -32,7 +32,7 @@ pub enum LimitKind {
     Cells,
     /// Cells of all elements.
     AllCells,
-    /// Statements that a step runs at most.
+    /// The cost of a step: its statements, those of both blocks of an `if`, and each turn of a loop.
     Cost,
 }
 
@@ -45,22 +45,25 @@ pub enum CheckFault {
     Twice {
         at: u32,
     },
-    /// A name that isn't declared.
+    /// A name that isn't declared, or in an expression one that is no state's, parameter's or loop's.
     #[error("an unknown name at byte {at}")]
     Unknown {
         at: u32,
     },
-    /// A name of another kind than its place asks for, or with another number of values or coordinates.
+    /// A name of another kind than its place asks for, with an index where it has none or without the one it needs, or
+    /// with another number of values or coordinates; or the word `cell` or `iter` where it has no meaning.
     #[error("a name of another kind at byte {at}")]
     Kind {
         at: u32,
     },
-    /// An entry between arrays of two shapes, or a send from another array than the entry's source.
+    /// An entry between arrays of two shapes, or whose offset has another number of coordinates than its array; or a
+    /// send from another array than the entry's source.
     #[error("arrays of two shapes at byte {at}")]
     Shape {
         at: u32,
     },
-    /// An entry or a reduction, declared at `entry`, that isn't sent to once and received from once.
+    /// An entry or a reduction, declared at `entry`, that isn't sent to once and received from once, or is
+    /// sent to within an `if` or a loop.
     #[error("not sent or received once at byte {at}")]
     NotOnce {
         entry: u32,
@@ -83,7 +86,7 @@ pub enum CheckFault {
     Bound {
         at: u32,
     },
-    /// A count above its greatest value. `value` is the count up to and with this place.
+    /// A count above its greatest value. `value` is the count up to and with this place, or the greatest `u64`.
     #[error("a limit is exceeded at byte {at}: {value}")]
     Limit {
         which: LimitKind,

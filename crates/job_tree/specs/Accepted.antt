@@ -18,7 +18,7 @@ use Rattle.job_tree.specs.Tokens.{is_last}
 
 -- ---- the lists of a job have their items
 
--- an overlap has two parts
+-- an overlap has two parts at least
 abbrev pub BodyFilled : StepBody → Type 0
 BodyFilled (bodies.Overlap at parts) = 1 < length parts
 BodyFilled _ = Unit {0}
@@ -81,7 +81,7 @@ word_lies n _ = true
 unfoldable pub names_lie : ℕ → Job → Bool
 names_lie n job = list_all (word_lies n) (job_spelling job 0)
 
--- the same as tests: an overlap has two parts
+-- the same as tests: an overlap has two parts at least
 abbrev pub body_is_filled : StepBody → Bool
 body_is_filled (bodies.Overlap at parts) = nat_lt 1 (length parts)
 body_is_filled _ = true

@@ -19,7 +19,7 @@ pub fn one_tree()
     ensures { OneTree }
 {}
 
-/// A text that is no job has one fault: any two that it has are equal, but for `Memory`.
+/// A text has one fault at most: any two that it has are equal, but for `Memory`.
 pub fn one_fault()
     ensures { OneFault }
 {}

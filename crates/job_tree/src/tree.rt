@@ -1,7 +1,8 @@
 //! The tree of a job's text: a struct or an enum for each rule of the grammar.
 //!
 //! Places are byte offsets in the text. Each node that begins with a word or a symbol has its place as
-//! `at`; the others begin with a name, a number or another node, whose place is theirs.
+//! `at`, a `SignedNum` as `minus`; `How` and the operators have none. The others begin with a name, a number or another
+//! node, whose place is theirs.
 //!
 //! The first test of a `Conj` and the first product of a `Sum` are boxed, so that an expression moves as a few words.
 
@@ -331,7 +332,7 @@ pub enum Unary {
     Atom(Atom),
 }
 
-/// The least expressions.
+/// An operand without a sign or an operator, unless in brackets.
 #[cycle(expression)]
 #[derive(Drop)]
 pub enum Atom {
@@ -360,7 +361,7 @@ pub enum Atom {
     },
 }
 
-/// `index`, `row`, `col`, `cell` or `iter`: a number of the place that is computed.
+/// `index`, `row`, `col`, `cell` or `iter`: a number that goes by where and when it is computed.
 #[derive(Clone, Copy)]
 pub enum Here {
     Index,

@@ -5,7 +5,8 @@
 //! takes, so that a contract can bound them. Where an implementation
 //! tells its bytes, each call says which ones it moved; `read_up_to` and `write_all` say it of a whole text.
 //!
-//! `MemorySource` and `MemorySink` keep their bytes in memory and fail at the calls that they are told to.
+//! `MemorySource` and `MemorySink` keep their bytes in memory and fail at the calls that they are told to. A sink
+//! fails also where it has no room.
 //! `StdSource` and `StdSink` stand over a reader and a writer of std. Over standard input and output they
 //! are the trusted edge: no bytes are told there, and that the system moved them is std's word.
 #![tactic(auto)]

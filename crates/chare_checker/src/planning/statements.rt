@@ -24,6 +24,8 @@ use sqlite_items::Items;
 use std::alloc::Global;
 
 /// The plan of a block within loops.
+///
+/// `Memory`: an allocation was refused; `loops` may have more names.
 #[cycle(statements)]
 pub(crate) fn plan_block(
     alloc: Global,
