@@ -43,7 +43,7 @@ pub fn strikes_are_local()
     ensures { StrikesAreLocal }
 {}
 
-/// An element all whose parts of a step are done stands before its next step; after its last step it stands between
+/// An element whose parts of a step are all done stands before its next step; after its last step it stands between
 /// two iterations, with one more completed. It doesn't matter how far other elements are.
 pub fn steps_follow()
     ensures { StepsFollow }

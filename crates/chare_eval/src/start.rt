@@ -15,6 +15,8 @@ use sqlite_items::Items;
 use std::alloc::Global;
 
 /// The cells of an element before iteration 0, each by its state's initial value, and no slip.
+///
+/// `Memory`: an allocation was refused.
 #[tactic(auto, unfolding(crate::specs::Opening::start_of, crate::specs::Block::scene_of))]
 pub fn start_cells(alloc: Global, plan: &Plan, e: ElementId) -> Result<Cells, Memory>
     requires { e.0 < elements plan.now }

@@ -100,7 +100,7 @@ pub fn value(e: &Expr, scene: &Scene, cells: &[i64]) -> Computed
     }
 }
 
-// What an operand computes. Most are leaves, or a cell at one, which cost no call so.
+// What an operand computes. Most are leaves, or a cell whose place is a leaf; these cost no call here.
 #[cycle(expressions)]
 #[inline(always)]
 pub(crate) fn operand(e: &Expr, scene: &Scene, cells: &[i64]) -> Computed

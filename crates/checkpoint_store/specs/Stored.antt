@@ -3,7 +3,7 @@ use Rattle.std.specs.Prelude.{◌≡◌, ℕ, ◌==◌, if◌then◌else◌, Opt
 use Rattle.pup_state.specs.declared.piece.Piece.{Piece}
 
 pub record StoreState : Type 0 where
-  -- the node's part of the last checkpoint that both replicas agreed on
+  -- the node's part of the run's base
   pub base : Option Piece
   -- its part of the checkpoint that is being taken
   pub fresh : Option Piece
@@ -13,7 +13,7 @@ abbrev pub at_or : ℕ → Option Piece → Option Piece → Option Piece
 at_or k None other = other
 at_or k (Some piece) other = if piece.iteration == k then Some piece else other
 
--- the piece at an iteration, of two the base
+-- the piece at an iteration, the base where both are
 abbrev pub piece_at : ℕ → StoreState → Option Piece
 piece_at k s = at_or k s.base (at_or k s.fresh None)
 

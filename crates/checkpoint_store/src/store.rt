@@ -49,7 +49,7 @@ impl Store {
         self.base = self.fresh.take();
     }
 
-    /// The piece at iteration k, of two the base; None exactly where neither is at k.
+    /// The piece at iteration k, the base where both are; None exactly where neither is.
     pub fn piece(&self, k: u64) -> Option<&Piece>
         ensures { MatchOption result (piece_at k self.now ≡ None)
             (λ piece. piece_at k self.now ≡ Some piece.now) }

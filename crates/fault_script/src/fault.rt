@@ -6,7 +6,7 @@ use chare_base::slots::SlotId;
 /// What a line of a script does.
 #[derive(Clone, Copy, Debug, PartialEq, Eq)]
 pub enum Fault {
-    /// A cell of an element of a replica changes as the element begins iteration `at`: the bits of `mask` turn over.
+    /// A cell of an element of a replica changes as the element begins iteration `at`: the bits of `mask` are inverted.
     Flip {
         /// 0 or 1.
         replica: u8,

@@ -1,4 +1,4 @@
-//! Laws of scripts, as functions without a body: where one is called, its law is known.
+//! Laws of scripts, as functions with an empty body: where one is called, its law is known.
 
 ghost use Rattle.fault_script.specs.Laws.{ScriptsFit, ScriptsFollow};
 

@@ -2,8 +2,8 @@
 //!
 //! A script is a list of at most 64 fault lines. Runs speak of its lines by their places in that list, from 0, and
 //! of several of them as a `LineSet`. `specs/Lines` says what a set selects from a script: its lines, and the flips
-//! among them. Nodes ask a script what strikes a cell and which line kills a slot; the ledger of a run says which
-//! lines are still to strike.
+//! among them. A script tells what strikes a cell and which line kills a slot; the ledger of a run says which lines
+//! are still to strike.
 #![tactic(auto)]
 
 pub mod fault;

@@ -19,7 +19,7 @@ use chare_base::slots::SlotId;
 pub enum LineFault {
     /// Its words are of no form.
     Form,
-    /// It names what isn't in the plan.
+    /// It names what isn't in the plan, or names an element or a cell in another form than the plan's.
     NoSuch,
     /// One of its numbers is out of range.
     Range,

@@ -27,10 +27,12 @@ pub enum ScriptFault {
     /// The words of a line are of no form.
     #[error("line {line} is of no form")]
     Form { line: u32 },
-    /// A line names an array, a state, coordinates or a cell that the plan doesn't have.
+    /// A line names an array or a state that the plan doesn't have, gives an element more or fewer coordinates than its
+    /// array has, gives a cell of a state `int` an index, or gives a cell of a state `int[n]` none.
     #[error("line {line} names what the job doesn't have")]
     NoSuch { line: u32 },
-    /// A number of a line is out of range.
+    /// A number of a line is out of range: a replica above 1, a node, a coordinate, a cell of a state or an iteration
+    /// that there isn't, or a mask that is 0 or above 2^64 - 1.
     #[error("a number of line {line} is out of range")]
     Range { line: u32 },
     /// An allocation was refused.

@@ -151,7 +151,7 @@ impl Cut {
         slot::begin(k, &mut self.slots[at])
     }
 
-    /// The slot, which last saw a round gather, reports its top as its cap.
+    /// The slot, which is free, last saw a round gather and hasn't reported in it, reports its top as its cap.
     #[tactic(auto, unfolding(crate::specs::Cuts::reported_by))]
     pub fn report(&mut self, slot: SlotId) -> u64
         requires slot { HasSlot self.old slot }
@@ -227,7 +227,7 @@ impl Cut {
         slot::rewind(base, &mut self.slots[at])
     }
 
-    /// The slot is free again.
+    /// The slot, which hasn't reported in the round that it last saw, is free again.
     #[tactic(auto, unfolding(crate::specs::Cuts::released_by))]
     pub fn release(&mut self, slot: SlotId)
         requires slot { HasSlot self.old slot }

@@ -8,6 +8,7 @@ use pup_state::compare::Verdict;
 use pup_state::piece::Piece;
 
 /// What is sent from box to box. Iterations count completed ones; `live` is the set of all fault lines that aren't spent.
+/// `Lend`, `Take` and `Died` have their form here, and nothing sends them.
 #[derive(Drop)]
 pub enum Letter {
     /// From a slot to a slot of its replica: the message that an element finds at an entry in an iteration.
@@ -78,7 +79,8 @@ pub enum Letter {
     Resume {
         stamp: Stamp,
     },
-    /// From a slot to the conductor: its node, whose stamp this is, died by this fault line.
+    /// From a slot to the conductor: its node, whose stamp this is, died by the fault line at this place in the script,
+    /// from 0.
     Died {
         stamp: Stamp,
         slot: SlotId,

@@ -164,7 +164,7 @@ impl Object {
         self.cells.set(at, struck.cast_signed());
     }
 
-    /// Begins an iteration, one before the plan's last.
+    /// Begins the next iteration. Where the plan has that iteration, the object fits the plan afterwards too.
     pub fn begin(&mut self)
         requires { self.old.step ≡ None }
         ensures exact { self.new ≡ begun self.old }

@@ -12,8 +12,8 @@
 //!   fault comes whether or not there is memory.
 //! - What was packed reads back: `laws::pieces_read_back` for a piece, element by element.
 //!
-//! Runs take checkpoints and pieces by this crate, nodes go back to an iteration by it, and the report tells a
-//! checkpoint's length and digest. `Verdict` is what a comparison of two pieces says.
+//! Nodes pack their pieces by this crate and go back to an iteration by it, and the report reads the states of the last
+//! checkpoint. `Verdict` is what a comparison of two pieces says.
 #![tactic(auto)]
 
 pub mod compare;

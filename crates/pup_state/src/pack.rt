@@ -54,8 +54,10 @@ pub fn put_head(alloc: Global, elements: u32, out: &mut Bytes) -> Result<(), Mem
     Ok(())
 }
 
-/// The checkpoint of all elements, after `done` completed iterations. Its time is linear in the cells, and its memory
-/// is asked for once.
+/// The checkpoint of all elements, after `done` completed iterations. Its time is linear in the cells. The memory of
+/// its bytes is asked for once; the head and each record are first written into a small buffer.
+///
+/// `Memory`: an allocation was refused.
 #[tactic(auto, unfolding(crate::specs::Spelling::pack))]
 pub fn pack_all(alloc: Global, plan: &Plan, done: u64, all: &CellsList) -> Result<Bytes, Memory>
     requires { Shaped plan.now all.now }

@@ -17,6 +17,8 @@ pub struct Piece {
 
 impl Piece {
     /// An equal value in memory of its own.
+    ///
+    /// `Memory`: an allocation was refused.
     pub fn copy(&self, alloc: Global) -> Result<Piece, Memory>
         ensures { IfOk result (λ copy. copy ≡ self.now) }
     {

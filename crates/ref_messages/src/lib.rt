@@ -4,8 +4,8 @@
 //! later iteration may arrive first, and none is taken in another's place. A `RefQueue` is a finite map from keys
 //! to payloads with a number `now`: iterations before it are over, and a message of theirs is refused, as is a
 //! second one under a key that is held. Every call says the whole map that it leaves, in the words of
-//! `specs/Queue`; a refused message changes nothing. Putting, taking and looking are logarithmic in the keys
-//! held, and only putting takes memory.
+//! `specs/Queue`; a refused message changes nothing. Putting, taking and looking go through the first messages one
+//! by one, which are mostly few, and are logarithmic in those behind them. Only putting takes memory.
 //!
 //! An element's object (`object_steps`) holds its messages so.
 #![tactic(auto)]

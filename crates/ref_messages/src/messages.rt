@@ -16,13 +16,14 @@ use std::cmp::Ordering;
 use std::collections::BTreeMap;
 use std::marker::Model;
 
-// How many messages are held side by side at most, before further ones go to the map.
+// Where so many messages lie side by side, one whose key is above theirs goes to the map. One whose key isn't is still
+// put among them.
 const MOST_FIRST: usize = 16;
 
 /// Messages with their keys, in the order of keys, which contracts see as a list.
 ///
-/// An element mostly holds a few messages, which lie side by side. Where it holds many, as those of a sender that is far
-/// ahead, each is put, found and taken in logarithmic time.
+/// An element mostly holds a few messages, which lie side by side and are looked through one by one. Where it holds
+/// many, as those of a sender that is far ahead, each that is behind these is put, found and taken in logarithmic time.
 #[derive(Drop)]
 pub(crate) struct Messages {
     first: Vec<(RefKey, Payload)>,

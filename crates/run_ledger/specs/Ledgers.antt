@@ -11,8 +11,8 @@ use Rattle.run_ledger.specs.declared.record.Record.{Record}
 use Rattle.run_ledger.specs.declared.record.Record.TheVariants.{Accept, Differ, Crash, Mend, Adopt, Both, NoSpare, Lost, Done}
 use Rattle.run_ledger.specs.Lines.{accepted, adopted, crash_at, flip_spent, flips_where, fresh_line, is_based, is_live, shapes, spent_at}
 
--- What the records of a run made of it. The base is the last checkpoint that both replicas agreed on, at first the
--- opening.
+-- What the records of a run made of it. The base is the last checkpoint that both replicas agreed on or that one took
+-- over from the other, at first the opening.
 pub record LedgerState : Type 0 where
   pub options : Options
   -- the job's iterations

@@ -116,11 +116,12 @@ with_spent lines at (Some line) = slice_set lines at (spent_line line)
 abbrev pub spent_at : ℕ → List LedgerLine → List LedgerLine
 spent_at at lines = with_spent lines at (slice_get lines at)
 
--- how many live lines kill a slot
+-- 1 where there is a slot that a line kills, else 0
 abbrev pub crash_count : Option SlotId → ℕ
 crash_count None = 0
 crash_count (Some slot) = 1
 
+-- how many live lines kill a slot
 abbrev pub live_crashes : List LedgerLine → ℕ
 live_crashes [] = 0
 live_crashes (line ∷ more) = crash_count (crash_slot line) + live_crashes more

@@ -67,6 +67,8 @@ impl Model for Ledger {
 impl Ledger {
     /// The ledger before the first record: the base is the opening, all lines of the script are live, all copies
     /// stand, and both replicas are up.
+    ///
+    /// `Memory`: an allocation was refused.
     pub fn start(
         alloc: Global,
         script: &Script,
@@ -96,6 +98,8 @@ impl Ledger {
     }
 
     /// Makes room for `more` records beyond those made, so that they can be made without memory.
+    ///
+    /// `Memory`: an allocation was refused, and all is as before.
     pub fn reserve(&mut self, more: u32) -> Result<(), Memory>
         ensures room { OnOk result (more ≤ self.new.spare) }
         ensures ledger { self.new.ledger ≡ self.old.ledger }

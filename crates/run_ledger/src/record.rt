@@ -79,6 +79,8 @@ impl Records {
     }
 
     /// Makes room for `more` records beyond those that there are.
+    ///
+    /// `Memory`: an allocation was refused, and all is as before.
     pub fn reserve(&mut self, more: usize) -> Result<(), Memory>
         ensures room { OnOk result (more ≤ self.new.room) }
         ensures items { self.new.items ≡ self.old.items }
