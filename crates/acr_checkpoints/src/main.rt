@@ -1,9 +1,9 @@
 //! Reads a checkpoint back, whole and spoiled, and prints what each reading answers. `stdout` is what is due: it was
 //! worked out from the format of checkpoints by another program, never by this one.
 //!
-//! The job is a ring of three elements. Its checkpoint after the last iteration has 116 bytes: the mark and the number of
+//! The job is a ring of three elements. Its checkpoint after the last iteration has 116 bytes: `ACR1` and the number of
 //! elements (8), then three records of 36 bytes each. It is read whole; its second record alone; each of its proper
-//! prefixes; with a byte more; and with each byte before the second record changed by its lowest bit.
+//! prefixes; with a byte more; and with the lowest bit of each byte before the second record changed.
 #![tactic(auto)]
 
 use anyhow::{Result, bail};

@@ -170,9 +170,9 @@ impl Conductor {
     ///
     /// Once an agreed round is made quiet it records what all verdicts say, where the ledger takes it. Where they are
     /// equal it accepts the checkpoint that the pieces make, and orders all slots to take it as their base; where the
-    /// base is then at the last iteration the run is done, and every slot is sent Stop. Where they differ it names the
-    /// least element that a verdict names, and orders all slots back to the base. An answer to another move than the
-    /// wanted one changes nothing.
+    /// base is then at the last iteration the run is done, and every slot is sent Stop. Where they differ, and both
+    /// stamps have a next epoch, it records the least element that a verdict names, and orders all slots back to the
+    /// base. An answer to another move than the wanted one changes nothing.
     ///
     /// `Memory`: an allocation was refused, now or in an earlier call; the conductor is of no further use.
     pub fn did<M: Placement>(

@@ -258,12 +258,12 @@ abbrev pub can_run_by : Plan → ℕ → Option Progress → Bool
 can_run_by p limit None = false
 can_run_by p limit (Some o) = can_run p limit o
 
--- the iterations that an object has completed, where it is between two
--- whether it awaits a message; None where no element has the seat
+-- whether an object awaits the message of this entry in iteration k; false where there is none
 abbrev pub awaits_by : Plan → ℕ → EntryId → Option Progress → Bool
 awaits_by p k entry None = false
 awaits_by p k entry (Some o) = awaits p o k entry.0
 
+-- the iterations that an object has completed, where it is between two
 abbrev pub completed_by : Option Progress → Option ℕ
 completed_by None = None
 completed_by (Some o) = if is_none o.step then Some o.done else None

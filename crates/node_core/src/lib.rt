@@ -11,7 +11,7 @@
 //! Laws over these definitions stand in `laws`. `nodes_keep`: under the flips of its last order's stamp a node's
 //! elements, what it gathers and its pieces are the definition's, and each letter that it sends is true. `nodes_move`:
 //! as long as no order comes, nothing that is sent is lost; a node has sent whatever it owes. `nodes_cost`: each event
-//! leaves less to do. A world of nodes and a worker that drives one in a thread stand on this crate.
+//! but an order leaves less to do. The world of a run, `world_core`, stands on this crate.
 #![tactic(auto)]
 
 pub mod laws;

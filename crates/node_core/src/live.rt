@@ -96,7 +96,7 @@ impl Live {
     }
 }
 
-// A turn of the object of a number.
+// A turn of the object at a seat.
 fn run_at<M: Placement>(
     alloc: Global,
     plan: &Plan,
@@ -171,7 +171,7 @@ fn run_object<M: Placement>(
     }
 }
 
-// The element of the object of a number, as it sends.
+// The element of the object with this number, as it sends.
 fn sender_of(slot: SlotId, stamp: Stamp, roster: &Seats, i: u32, object: &Object) -> Sender
     ensures { (p : Plan) → Fits p object.now → result ≡ sender_of p slot stamp roster.now i object.now }
 {
@@ -432,7 +432,7 @@ impl Live {
     }
 }
 
-// A message comes to the object of a number.
+// A message comes to the object at a seat.
 fn take_parcel(
     seat: Option<u32>,
     iteration: u64,

@@ -221,7 +221,8 @@ impl Node {
 
     /// A turn of the least element that can run below the limit. `Held`: none can, and some element is before an
     /// iteration of the plan, which is the limit or a later one for each that is. `Awaits`: none can, and no element is
-    /// before an iteration of the plan.
+    /// before an iteration of the plan. A node that waits for Resume runs nothing, and answers `Held` where some
+    /// element is before an iteration of the plan, also below the limit.
     ///
     /// `Memory`: an allocation was refused; the node is over.
     #[tactic(auto, unfolding(crate::specs::Nodes::node_turned))]
@@ -259,7 +260,8 @@ impl Node {
     /// Restore, Commit, Take and Resume are orders: the last one's stamp is the node's from then on, also of a spent one.
     /// Restore leads the elements back to the base; Commit makes the fresh piece the base, where it and all elements are
     /// at the order's iteration; Take makes a node of the piece that it brings, also of a spent one. After each of them
-    /// the node waits, and Resume ends that. An order that it can't obey leaves it spent: it drops what it hears.
+    /// the node waits, and Resume ends that; a node of replica 1 then sends a piece that it holds fresh to its buddy
+    /// again. An order that it can't obey leaves it spent: it drops what it hears but a Take.
     ///
     /// `Memory`: an allocation was refused; the node is over.
     #[tactic(auto, unfolding(crate::specs::Nodes::node_heard))]
@@ -379,7 +381,8 @@ impl Node {
         }
     }
 
-    /// Whether one of its elements has a ready part, or would begin an iteration below the limit and of the plan.
+    /// Whether one of its elements has a ready part, or would begin an iteration below the limit and of the plan; false
+    /// where it lives elsewhere. A node that waits for Resume runs nothing, whatever this says.
     #[tactic(auto, unfolding(crate::specs::Nodes::node_can_run))]
     pub fn can_run(&self, plan: &Plan, e: ElementId, limit: u64) -> bool
         requires { Fitted plan.now self.now }

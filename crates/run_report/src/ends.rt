@@ -21,6 +21,8 @@ use pup_state::unpack::unpack_all;
 use std::alloc::Global;
 
 /// The text of a plain run: the answers and slips from the states at its end.
+///
+/// `Memory`: an allocation was refused.
 #[tactic(auto, unfolding(crate::specs::Report::plain_text), using(crate::proofs::Sides::states_few))]
 pub fn plain_text(alloc: Global, plan: &Plan, all: &CellsList) -> Result<Bytes, Memory>
     requires { Shaped plan.now all.now }

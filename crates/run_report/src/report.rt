@@ -29,6 +29,8 @@ use std::alloc::Global;
 /// The report of a run under a fault script: a line for each record, told from the ending's records and marks, and where
 /// the job is done its answers, told from the last checkpoint. Its time is linear in the records, in the checkpoint's
 /// bytes, and in the elements for each answer.
+///
+/// `Memory`: an allocation was refused.
 #[tactic(auto, unfolding(crate::specs::Report::report))]
 pub fn report(
     alloc: Global,

@@ -35,6 +35,8 @@ pub struct Answer {
 /// word where the script isn't one for the job and the nodes, and `unbuilt` where it has a crash line; `job` with the line,
 /// the column and the word of the first fault, where the job's text is no job; or `long` where the input has more than
 /// 262,144 bytes.
+///
+/// `Memory`: an allocation was refused.
 pub fn answer_to(alloc: Global, command: Command, input: &[u8]) -> Result<Answer, Memory>
     requires { Bounded command }
     ensures { IfOk result (λ answer. Due command input.now answer.status answer.text) }

@@ -23,7 +23,9 @@ use world_core::laws::agreed_waits;
 /// Runs a job under a script in both replicas on their nodes, its events picked by a schedule, and reports the records that
 /// the conductor made. They are lawful. Each checkpoint and answer in the report is that of the fault-free run on one
 /// thread, where no flips of the two replicas make equal checkpoints that are wrong. Where there are more nodes than
-/// elements nothing is run.
+/// elements nothing is run, and `nodes` is answered; `still` where the drill doesn't come to the run's end.
+///
+/// `Memory`: an allocation was refused.
 pub fn drilled(
     alloc: Global,
     plan: &Plan,
@@ -73,7 +75,7 @@ fn run(
     }
 }
 
-// The answer where a run stands still.
+// The answer where a drill doesn't come to the run's end.
 fn still(alloc: Global) -> Result<Answer, Memory>
     ensures status { IfOk result (λ answer. answer.status ≡ Status.Still) }
     ensures text { IfOk result (λ answer. answer.text ≡ codes "still\n") }

@@ -20,6 +20,8 @@ use std::alloc::Global;
 
 /// The answer to a job with a script's text: `script` where it is no script for the job and the nodes, `unbuilt` where it
 /// has a crash line, else that to the job drilled under it.
+///
+/// `Memory`: an allocation was refused.
 pub(crate) fn scripted(
     alloc: Global,
     plan: &Plan,

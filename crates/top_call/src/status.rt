@@ -6,7 +6,7 @@ ghost use Rattle.top_call.specs.Due.{code_of};
 
 use std::process::ExitCode;
 
-/// How a call of the program ends. Each status but want of memory has its text.
+/// How a call of the program ends. Each status but `Write` and `Memory` has its text.
 #[derive(Clone, Copy, Debug, PartialEq, Eq)]
 pub enum Status {
     /// The command succeeded; its text was written.
@@ -25,7 +25,7 @@ pub enum Status {
     Write,
     /// Memory ran out; nothing was written.
     Memory,
-    /// No slot and not the conductor had an event before the run ended; text `still`.
+    /// Before the run ended no slot and not the conductor had an event, or the schedule's turns ran out; text `still`.
     Still,
 }
 

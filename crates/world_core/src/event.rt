@@ -19,11 +19,13 @@ pub enum Event {
     Run { slot: SlotId, element: ElementId },
     /// A slot hears the first letter of its inbox.
     Hear { slot: SlotId },
-    /// A slot makes a move: once all its elements have completed all iterations it packs.
+    /// A slot makes the first of the moves on the agreement that is due: it sees the round, goes back to the base, is
+    /// released, reports its cap, packs, or lets its elements begin the next iteration (`SlotMove`).
     Move { slot: SlotId },
     /// The conductor hears the first letter of its inbox.
     ConductorHear,
-    /// The conductor makes a move; it has none yet.
+    /// The conductor makes the move on the agreement that it wants: it looks at a slot, opens a round, notes a cap,
+    /// agrees on an iteration, or makes the round quiet and records what the verdicts say.
     ConductorMove,
 }
 

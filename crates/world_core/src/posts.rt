@@ -27,6 +27,8 @@ use letter_post::outbox::Outbox;
 use std::alloc::Global;
 
 /// Appends the slots of a replica at the opening.
+///
+/// `Memory`: an allocation was refused; some slots are missing.
 pub fn start_slots<M: Placement>(
     alloc: Global,
     plan: &Plan,

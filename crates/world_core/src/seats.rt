@@ -78,7 +78,7 @@ impl SeatStates {
         Ok(())
     }
 
-    /// A seat is told again; one that isn't there changes nothing.
+    /// Replaces a seat's state; a seat that isn't there changes nothing.
     #[tactic(auto, using(crate::proofs::Counting::count_set, crate::proofs::Counting::count_one, crate::proofs::Counting::count_few, crate::proofs::Prefixes::set_nowhere))]
     pub fn set(&mut self, seat: usize, state: Readiness)
         ensures { self.new ≡ slice_set self.old seat state }
@@ -141,7 +141,7 @@ fn one_if(test: bool) -> usize
     if test { 1 } else { 0 }
 }
 
-// A count after one of those that were counted is told again.
+// A count after one of the states that were looked at is replaced.
 fn recounted(count: usize, before: bool, after: bool) -> usize
     requires counted { (if before then 1 else 0) ≤ count }
     requires few { count < 2 ^ 63 }
@@ -150,7 +150,7 @@ fn recounted(count: usize, before: bool, after: bool) -> usize
     count - one_if(before) + one_if(after)
 }
 
-// Where the search begins after a seat is told again: only one that can run leads it back.
+// Where the search begins after a seat's state is replaced: only one that can run leads it back.
 fn searched_from(from: usize, seat: usize, able: bool) -> usize
     ensures { result ≡ (if able then min from seat else from) }
 {

@@ -32,7 +32,8 @@ use letter_post::outbox::Outbox;
 use std::alloc::Global;
 use std::marker::Model;
 
-/// The world of a run: the slots of both replicas with their nodes and inboxes, and the conductor with its own inbox.
+/// The world of a run: the slots of both replicas with their nodes and inboxes, the agreement, and the conductor with
+/// its own inbox.
 ///
 /// Contracts see a `WorldState` of `specs/Worlds`. Each call is given the plan, the script and the placement with which
 /// the world was started. `Serves` is what calls ask of a world: it holds of every world that events reach, by the laws
