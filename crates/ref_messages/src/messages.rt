@@ -16,7 +16,7 @@ use std::cmp::Ordering;
 use std::collections::BTreeMap;
 use std::marker::Model;
 
-// Where so many messages lie side by side, one whose key is above theirs goes to the map. One whose key isn't is still
+// From this many messages on that lie side by side, one whose key is above theirs goes to the map; any other is still
 // put among them.
 const MOST_FIRST: usize = 16;
 
