@@ -79,7 +79,10 @@ impl Live {
         requires fits { AllByRecursion (Fits plan.now) self.old.objects }
         requires place { length (M.place map.now) ≡ elements plan.now }
         requires empty { out.old ≡ [] }
-        ensures told { IfOk result (λ kind. record { body = self.new; turn = turn_with kind out.new } ≡ body_ran plan.now (lines_of (faults_of script.now) stamp) (M.place map.now) limit e.0 slot stamp roster.now self.old) }
+        ensures told { IfOk result
+            (λ kind. record { body = self.new; turn = turn_with kind out.new }
+            ≡ body_ran plan.now (lines_of (faults_of script.now) stamp) (M.place map.now) limit e.0
+            slot stamp roster.now self.old) }
         ensures sent { IfOk result (λ kind. out.new ≡ out_of (turn_with kind out.new)) }
     {
         if self.waits {
@@ -115,7 +118,13 @@ fn run_at<M: Placement>(
     requires fits { AllByRecursion (Fits plan.now) objects.old.items }
     requires place { length (M.place map.now) ≡ elements plan.now }
     requires empty { out.old ≡ [] }
-    ensures told { (b : Body) → IfOk result (λ kind. record { body = with_objects b objects.new.items gatherings.new.items; turn = turn_with kind out.new } ≡ body_ran_at plan.now (lines_of (faults_of script.now) stamp) (M.place map.now) limit slot stamp roster.now (with_objects b objects.old.items gatherings.old.items) seat) }
+    ensures told { (b : Body) → IfOk result
+        (λ kind. record {
+          body = with_objects b objects.new.items gatherings.new.items;
+          turn = turn_with kind out.new;
+        }
+        ≡ body_ran_at plan.now (lines_of (faults_of script.now) stamp) (M.place map.now) limit slot
+        stamp roster.now (with_objects b objects.old.items gatherings.old.items) seat) }
     ensures sent { IfOk result (λ kind. out.new ≡ out_of (turn_with kind out.new)) }
 {
     match seat {
@@ -152,7 +161,14 @@ fn run_object<M: Placement>(
     requires fits { AllByRecursion (Fits plan.now) objects.old.items }
     requires place { length (M.place map.now) ≡ elements plan.now }
     requires empty { out.old ≡ [] }
-    ensures told { (b : Body) → IfOk result (λ kind. record { body = with_objects b objects.new.items gatherings.new.items; turn = turn_with kind out.new } ≡ body_ran_by plan.now (lines_of (faults_of script.now) stamp) (M.place map.now) limit slot stamp roster.now (with_objects b objects.old.items gatherings.old.items) i (slice_get objects.old.items i)) }
+    ensures told { (b : Body) → IfOk result
+        (λ kind. record {
+          body = with_objects b objects.new.items gatherings.new.items;
+          turn = turn_with kind out.new;
+        }
+        ≡ body_ran_by plan.now (lines_of (faults_of script.now) stamp) (M.place map.now) limit slot
+        stamp roster.now (with_objects b objects.old.items gatherings.old.items) i
+        (slice_get objects.old.items i)) }
     ensures sent { IfOk result (λ kind. out.new ≡ out_of (turn_with kind out.new)) }
 {
     effects.clear();
@@ -173,7 +189,8 @@ fn run_object<M: Placement>(
 
 // The element of the object with this number, as it sends.
 fn sender_of(slot: SlotId, stamp: Stamp, roster: &Seats, i: u32, object: &Object) -> Sender
-    ensures { (p : Plan) → Fits p object.now → result ≡ sender_of p slot stamp roster.now i object.now }
+    ensures { (p : Plan) → Fits p object.now → result
+        ≡ sender_of p slot stamp roster.now i object.now }
 {
     Sender {
         slot,
@@ -262,7 +279,9 @@ impl Live {
         roster: &Seats,
         letter: Letter,
     ) -> Result<Outbox, Memory>
-        ensures { (script : List Fault) (place : List ℕ) → IfOk result (λ out. record { body = self.new; out = out } ≡ body_heard plan.now script place slot stamp roster.now self.old letter) }
+        ensures { (script : List Fault) (place : List ℕ)
+            → IfOk result (λ out. record { body = self.new; out = out }
+            ≡ body_heard plan.now script place slot stamp roster.now self.old letter) }
     {
         match letter {
             Letter::Parcel {
@@ -326,7 +345,10 @@ impl Live {
         to: ElementId,
         payload: &Payload,
     ) -> Result<(), Memory>
-        ensures { OnOk result (record { body = self.new; out = [] } ≡ (if same_stamp sent_under stamp then parcel_heard roster.now iteration entry to payload.now self.old else unmoved self.old)) }
+        ensures { OnOk result (record { body = self.new; out = [] }
+            ≡ (if same_stamp sent_under stamp
+            then parcel_heard roster.now iteration entry to payload.now self.old
+            else unmoved self.old)) }
     {
         if !sent_under.is_same(stamp) {
             return Ok(());
@@ -346,7 +368,11 @@ impl Live {
         reduction: ReductionId,
         value: i64,
     ) -> Result<Outbox, Memory>
-        ensures { IfOk result (λ out. record { body = self.new; out = out } ≡ (if own then total_heard plan.now iteration reduction value self.old (reduction_of plan.now reduction.0) else unmoved self.old)) }
+        ensures { IfOk result (λ out. record { body = self.new; out = out }
+            ≡ (if own
+            then total_heard plan.now iteration reduction value self.old
+            (reduction_of plan.now reduction.0)
+            else unmoved self.old)) }
     {
         if !own {
             return Ok(Outbox::new(alloc));
@@ -375,7 +401,11 @@ impl Live {
         roster: &Seats,
         share: Share,
     ) -> Result<Outbox, Memory>
-        ensures { IfOk result (λ out. record { body = self.new; out = out } ≡ (if own then partial_heard roster.now replica stamp share.reduction share.iteration share.node share.value self.old (reduction_of plan.now share.reduction.0) else unmoved self.old)) }
+        ensures { IfOk result (λ out. record { body = self.new; out = out }
+            ≡ (if own
+            then partial_heard roster.now replica stamp share.reduction share.iteration share.node
+            share.value self.old (reduction_of plan.now share.reduction.0)
+            else unmoved self.old)) }
     {
         if !own {
             return Ok(Outbox::new(alloc));
@@ -400,7 +430,8 @@ impl Live {
         stamp: Stamp,
         piece: Piece,
     ) -> Result<Outbox, Memory>
-        ensures { IfOk result (λ out. record { body = self.new; out = out } ≡ piece_heard plan.now own node stamp piece self.old) }
+        ensures { IfOk result (λ out. record { body = self.new; out = out }
+            ≡ piece_heard plan.now own node stamp piece self.old) }
     {
         let fits = piece.node == node && is_new(stamp, &piece, &self.other);
         if !fits {
@@ -422,7 +453,9 @@ impl Live {
         k: u64,
     ) -> Result<Outbox, Memory>
         requires { AllByRecursion (Fits plan.now) self.old.objects }
-        ensures { IfOk result (λ out. record { body = self.new; out = out } ≡ body_packed plan.now slot stamp self.old (piece_of plan.now k slot.node self.old.objects)) }
+        ensures { IfOk result (λ out. record { body = self.new; out = out }
+            ≡ body_packed plan.now slot stamp self.old
+            (piece_of plan.now k slot.node self.old.objects)) }
     {
         let piece = pack_objects(alloc, plan, k, slot.node, self.objects.as_slice())?;
         let mut out = Outbox::new(alloc);
@@ -440,7 +473,8 @@ fn take_parcel(
     payload: &Payload,
     objects: &mut Vec<Object>,
 ) -> Result<(), Memory>
-    ensures { OnOk result (objects.new.items ≡ taken_at iteration entry payload.now objects.old.items seat) }
+    ensures { OnOk result (objects.new.items
+        ≡ taken_at iteration entry payload.now objects.old.items seat) }
 {
     if let Some(i) = seat {
         take_at(i, iteration, entry, payload, objects)?;
@@ -455,7 +489,9 @@ fn take_at(
     payload: &Payload,
     objects: &mut Vec<Object>,
 ) -> Result<(), Memory>
-    ensures { OnOk result (objects.new.items ≡ taken_by iteration entry payload.now objects.old.items i (slice_get objects.old.items i)) }
+    ensures { OnOk result (objects.new.items
+        ≡ taken_by iteration entry payload.now objects.old.items i
+        (slice_get objects.old.items i)) }
 {
     if (i as usize) < objects.len() {
         let key = RefKey {
@@ -475,7 +511,8 @@ fn take_total(
     payload: &Payload,
     objects: &mut Vec<Object>,
 ) -> Result<(), Memory>
-    ensures { OnOk result (objects.new.items ≡ map (taken_in plan.now array key payload.now) objects.old.items) }
+    ensures { OnOk result (objects.new.items
+        ≡ map (taken_in plan.now array key payload.now) objects.old.items) }
 {
     for i in 0..objects.len() {
         take_in(plan, array, key, payload, &mut objects[i])?;
@@ -517,7 +554,10 @@ fn take_share(
     totals: &mut Vec<Tally>,
 ) -> Result<Outbox, Memory>
     requires { length sharers.now ≤ 65535 }
-    ensures { (b : Body) → IfOk result (λ out. record { body = with_totals b totals.new.items; out = out } ≡ share_heard replica stamp share.reduction share.iteration share.value x.now sharers.now (with_totals b totals.old.items) (number_in 0 sharers.now share.node)) }
+    ensures { (b : Body) → IfOk result
+        (λ out. record { body = with_totals b totals.new.items; out = out }
+        ≡ share_heard replica stamp share.reduction share.iteration share.value x.now sharers.now
+        (with_totals b totals.old.items) (number_in 0 sharers.now share.node)) }
 {
     let mut out = Outbox::new(alloc);
     match number_in(sharers, share.node) {

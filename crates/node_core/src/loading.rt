@@ -32,8 +32,13 @@ pub fn load<M: Placement>(
     piece: &Piece,
 ) -> Result<Option<Vec<Object>>, Memory>
     requires { length (M.place map.now) ≡ elements plan.now }
-    ensures exact { IfOk result (λ found. MatchOption found (loaded plan.now (members (M.place map.now) piece.now.node) piece.now.iteration piece.now.bytes ≡ None) (λ objects. loaded plan.now (members (M.place map.now) piece.now.node) piece.now.iteration piece.now.bytes ≡ Some objects.items)) }
-    ensures fits { IfOk result (λ found. MatchOption found ⊤ (λ objects. AllByRecursion (Fits plan.now) objects.items)) }
+    ensures exact { IfOk result
+        (λ found. MatchOption found (loaded plan.now (members (M.place map.now) piece.now.node)
+        piece.now.iteration piece.now.bytes ≡ None)
+        (λ objects. loaded plan.now (members (M.place map.now) piece.now.node) piece.now.iteration
+        piece.now.bytes ≡ Some objects.items)) }
+    ensures fits { IfOk result
+        (λ found. MatchOption found ⊤ (λ objects. AllByRecursion (Fits plan.now) objects.items)) }
 {
     let bytes = piece.bytes.as_slice();
     if bytes.len() >= TOO_MANY {
@@ -76,8 +81,11 @@ fn load_all(
 ) -> Result<Option<Vec<Object>>, Memory>
     requires there { AllByRecursion (λ e. e < elements plan.now) members.now }
     requires few { length bytes.now < 4294967295 }
-    ensures exact { IfOk result (λ found. MatchOption found (loaded plan.now members.now k bytes.now ≡ None) (λ objects. loaded plan.now members.now k bytes.now ≡ Some objects.items)) }
-    ensures fits { IfOk result (λ found. MatchOption found ⊤ (λ objects. AllByRecursion (Fits plan.now) objects.items)) }
+    ensures exact { IfOk result
+        (λ found. MatchOption found (loaded plan.now members.now k bytes.now ≡ None)
+        (λ objects. loaded plan.now members.now k bytes.now ≡ Some objects.items)) }
+    ensures fits { IfOk result
+        (λ found. MatchOption found ⊤ (λ objects. AllByRecursion (Fits plan.now) objects.items)) }
 {
     let mut all = Vec::new(alloc);
     let mut rest = bytes;
@@ -108,7 +116,8 @@ fn object_in(
     requires few { length bytes.now < 4294967295 }
     ensures exact { IfOk result (λ object. object ≡ object_in plan.now e.0 k bytes.now) }
     ensures fits { IfOk result (λ object. MatchOption object ⊤ (Fits plan.now)) }
-    ensures long { IfOk result (λ object. MatchOption object ⊤ (λ _. size_of plan.now e.0 ≤ length bytes.now)) }
+    ensures long { IfOk result
+        (λ object. MatchOption object ⊤ (λ _. size_of plan.now e.0 ≤ length bytes.now)) }
 {
     match unpack_element(alloc, plan, e, bytes, 0) {
         Ok(unpacked) => Ok(object_at(alloc, plan, e, k, unpacked)),
@@ -122,7 +131,8 @@ fn object_at(alloc: Global, plan: &Plan, e: ElementId, k: u64, from: Unpacked) -
     requires element { e.0 < elements plan.now }
     requires cells { length from.cells.numbers ≡ cells_of plan.now e.0 }
     requires within { from.done ≤ plan.now.iterations }
-    ensures exact { result ≡ (if from.done == k then Some (started plan.now e.0 from.cells k) else None) }
+    ensures exact { result
+        ≡ (if from.done == k then Some (started plan.now e.0 from.cells k) else None) }
     ensures fits { MatchOption result ⊤ (Fits plan.now) }
 {
     if from.done == k {

@@ -78,7 +78,8 @@ impl Node {
         live: LineSet,
     ) -> Result<Node, Memory>
         requires { length (M.place map.now) ≡ elements plan.now }
-        ensures { IfOk result (λ node. node ≡ start_state plan.now (faults_of script.now) (M.place map.now) slot live) }
+        ensures { IfOk result (λ node. node
+            ≡ start_state plan.now (faults_of script.now) (M.place map.now) slot live) }
     {
         let roster = Seats::start(alloc, plan, map, slot.node)?;
         let objects = start_objects(alloc, plan, map, slot.node)?;
@@ -124,7 +125,8 @@ impl Node {
     }
 
     pub(crate) fn live(&self) -> Option<&Live>
-        ensures { MatchOption result (self.now.body ≡ None) (λ body. self.now.body ≡ Some body.now) }
+        ensures { MatchOption result (self.now.body ≡ None)
+            (λ body. self.now.body ≡ Some body.now) }
     {
         self.body.as_ref()
     }
@@ -170,7 +172,9 @@ impl Node {
     ) -> Result<Turn, Memory>
         requires fits { Fitted plan.now self.old }
         requires place { length (M.place map.now) ≡ elements plan.now }
-        ensures ok { IfOk result (λ turn. record { node = self.new; turn = turn } ≡ node_ran plan.now (faults_of script.now) (M.place map.now) limit e.0 self.old) }
+        ensures ok { IfOk result
+            (λ turn. record { node = self.new; turn = turn }
+            ≡ node_ran plan.now (faults_of script.now) (M.place map.now) limit e.0 self.old) }
         ensures err { OnErr result (self.new.over ≡ true) }
         ensures over { self.old.over ≡ true → IsErr result }
     {
@@ -197,8 +201,12 @@ impl Node {
         requires fits { Fitted plan.now self.old }
         requires place { length (M.place map.now) ≡ elements plan.now }
         requires empty { out.old ≡ [] }
-        ensures ok { IfOk result (λ kind. record { node = self.new; turn = turn_with kind out.new } ≡ node_ran plan.now (faults_of script.now) (M.place map.now) limit e.0 self.old) }
-        ensures sent { IfOk result (λ kind. out.new ≡ out_of (node_ran plan.now (faults_of script.now) (M.place map.now) limit e.0 self.old).turn) }
+        ensures ok { IfOk result
+            (λ kind. record { node = self.new; turn = turn_with kind out.new }
+            ≡ node_ran plan.now (faults_of script.now) (M.place map.now) limit e.0 self.old) }
+        ensures sent { IfOk result
+            (λ kind. out.new ≡ out_of (node_ran plan.now (faults_of script.now) (M.place map.now)
+            limit e.0 self.old).turn) }
         ensures err { OnErr result (self.new.over ≡ true) }
         ensures over { self.old.over ≡ true → IsErr result }
     {
@@ -236,7 +244,9 @@ impl Node {
     ) -> Result<Turn, Memory>
         requires fits { Fitted plan.now self.old }
         requires place { length (M.place map.now) ≡ elements plan.now }
-        ensures ok { IfOk result (λ turn. record { node = self.new; turn = turn } ≡ node_turned plan.now (faults_of script.now) (M.place map.now) limit self.old) }
+        ensures ok { IfOk result
+            (λ turn. record { node = self.new; turn = turn }
+            ≡ node_turned plan.now (faults_of script.now) (M.place map.now) limit self.old) }
         ensures err { OnErr result (self.new.over ≡ true) }
         ensures over { self.old.over ≡ true → IsErr result }
     {
@@ -274,7 +284,9 @@ impl Node {
         letter: Letter,
     ) -> Result<Outbox, Memory>
         requires { length (M.place map.now) ≡ elements plan.now }
-        ensures ok { IfOk result (λ out. record { node = self.new; out = out } ≡ node_heard plan.now (faults_of script.now) (M.place map.now) letter self.old) }
+        ensures ok { IfOk result
+            (λ out. record { node = self.new; out = out }
+            ≡ node_heard plan.now (faults_of script.now) (M.place map.now) letter self.old) }
         ensures err { OnErr result (self.new.over ≡ true) }
         ensures over { self.old.over ≡ true → IsErr result }
     {
@@ -310,7 +322,10 @@ impl Node {
         to: ElementId,
         payload: &Payload,
     ) -> Result<(), Memory>
-        ensures ok { (p : Plan) (script : List Fault) (place : List ℕ) → OnOk result (record { node = self.new; out = [] } ≡ node_heard p script place (letters.Parcel sent_under entry iteration to payload.now) self.old) }
+        ensures ok { (p : Plan) (script : List Fault) (place : List ℕ)
+            → OnOk result (record { node = self.new; out = [] }
+            ≡ node_heard p script place (letters.Parcel sent_under entry iteration to payload.now)
+            self.old) }
         ensures err { OnErr result (self.new.over ≡ true) }
         ensures over { self.old.over ≡ true → IsErr result }
     {
@@ -344,7 +359,9 @@ impl Node {
         k: u64,
     ) -> Result<Outbox, Memory>
         requires { Fitted plan.now self.old }
-        ensures ok { IfOk result (λ out. record { node = self.new; out = out } ≡ node_packed plan.now (faults_of script.now) k self.old) }
+        ensures ok { IfOk result
+            (λ out. record { node = self.new; out = out }
+            ≡ node_packed plan.now (faults_of script.now) k self.old) }
         ensures err { OnErr result (self.new.over ≡ true) }
         ensures over { self.old.over ≡ true → IsErr result }
     {
@@ -466,7 +483,13 @@ fn run_body<M: Placement>(
     requires fits { FittedBody plan.now body.old }
     requires place { length (M.place map.now) ≡ elements plan.now }
     requires empty { out.old ≡ [] }
-    ensures told { (over : Bool) → IfOk result (λ kind. record { node = node_from slot last roster.now over body.new; turn = turn_with kind out.new } ≡ node_ran_by plan.now (faults_of script.now) (M.place map.now) limit e.0 (node_from slot last roster.now over body.old) body.old) }
+    ensures told { (over : Bool)
+        → IfOk result (λ kind. record {
+          node = node_from slot last roster.now over body.new;
+          turn = turn_with kind out.new;
+        }
+        ≡ node_ran_by plan.now (faults_of script.now) (M.place map.now) limit e.0
+        (node_from slot last roster.now over body.old) body.old) }
     ensures sent { IfOk result (λ kind. out.new ≡ out_of (turn_with kind out.new)) }
 {
     match body {
@@ -507,7 +530,13 @@ fn hear_body<M: Placement>(
     body: &mut Option<Live>,
 ) -> Result<Outbox, Memory>
     requires { length (M.place map.now) ≡ elements plan.now }
-    ensures { (script : List Fault) (over : Bool) → IfOk result (λ out. record { node = node_from slot (next_order last letter) roster.now over body.new; out = out } ≡ node_heard_as plan.now script (M.place map.now) letter (node_from slot last roster.now over body.old) (order_of letter)) }
+    ensures { (script : List Fault) (over : Bool)
+        → IfOk result (λ out. record {
+          node = node_from slot (next_order last letter) roster.now
+              over body.new;
+          out = out;
+        } ≡ node_heard_as plan.now script (M.place map.now) letter
+        (node_from slot last roster.now over body.old) (order_of letter)) }
 {
     if letter.is_mail() {
         let out = hear_mail(alloc, plan, slot, last, roster, letter, body)?;
@@ -527,7 +556,12 @@ fn hear_mail(
     letter: Letter,
     body: &mut Option<Live>,
 ) -> Result<Outbox, Memory>
-    ensures { (script : List Fault) (place : List ℕ) (over : Bool) → IfOk result (λ out. record { node = node_from slot last roster.now over body.new; out = out } ≡ node_heard_by plan.now script place letter (node_from slot last roster.now over body.old) body.old) }
+    ensures { (script : List Fault) (place : List ℕ) (over : Bool)
+        → IfOk result (λ out. record {
+          node = node_from slot last roster.now over body.new;
+          out = out;
+        } ≡ node_heard_by plan.now script place letter
+        (node_from slot last roster.now over body.old) body.old) }
 {
     match body {
         None => Ok(Outbox::new(alloc)),
@@ -549,7 +583,10 @@ fn take_parcel(
     payload: &Payload,
     body: &mut Option<Live>,
 ) -> Result<(), Memory>
-    ensures { (p : Plan) (script : List Fault) (place : List ℕ) (slot : SlotId) (over : Bool) → OnOk result (record { node = node_from slot last roster.now over body.new; out = [] } ≡ node_heard_by p script place (letters.Parcel sent_under entry iteration to payload.now) (node_from slot last roster.now over body.old) body.old) }
+    ensures { (p : Plan) (script : List Fault) (place : List ℕ) (slot : SlotId) (over : Bool)
+        → OnOk result (record { node = node_from slot last roster.now over body.new; out = [] }
+        ≡ node_heard_by p script place (letters.Parcel sent_under entry iteration to payload.now)
+        (node_from slot last roster.now over body.old) body.old) }
 {
     match body {
         None => Ok(()),
@@ -573,7 +610,10 @@ fn pack_body(
     body: &mut Option<Live>,
 ) -> Result<Outbox, Memory>
     requires { FittedBody plan.now body.old }
-    ensures { (over : Bool) → IfOk result (λ out. record { node = node_from slot last roster.now over body.new; out = out } ≡ node_packed_by plan.now (faults_of script.now) k (node_from slot last roster.now over body.old) body.old) }
+    ensures { (over : Bool) → IfOk result
+        (λ out. record { node = node_from slot last roster.now over body.new; out = out }
+        ≡ node_packed_by plan.now (faults_of script.now) k
+        (node_from slot last roster.now over body.old) body.old) }
 {
     let _ = script;
     let _ = roster;
@@ -594,7 +634,8 @@ fn start_objects<M: Placement>(
     node: u16,
 ) -> Result<Vec<Object>, Memory>
     requires { length (M.place map.now) ≡ elements plan.now }
-    ensures exact { IfOk result (λ all. all.items ≡ starts plan.now (members (M.place map.now) node)) }
+    ensures exact { IfOk result
+        (λ all. all.items ≡ starts plan.now (members (M.place map.now) node)) }
     ensures fits { IfOk result (λ all. AllByRecursion (Fits plan.now) all.items) }
 {
     let mut all = Vec::new(alloc);

@@ -35,7 +35,9 @@ pub(crate) fn turn(
 ) -> Result<Option<Spot>, Memory>
     requires fits { Fits plan.now object.old }
     requires none { effects.old ≡ [] }
-    ensures ok { IfOk result (λ spot. record { object = object.new; spot = spot; sent = effects.new } ≡ turned plan.now (flips_in (faults_of script.now) lines.0) limit object.old) }
+    ensures ok { IfOk result (λ spot.
+        record { object = object.new; spot = spot; sent = effects.new }
+        ≡ turned plan.now (flips_in (faults_of script.now) lines.0) limit object.old) }
     ensures idle { IfOk result (λ spot. MatchOption spot (effects.new ≡ []) (λ _. ⊤)) }
 {
     if object.is_at_top() {
@@ -59,7 +61,9 @@ fn go(
 ) -> Result<Option<Spot>, Memory>
     requires fits { Fits plan.now object.old }
     requires none { effects.old ≡ [] }
-    ensures ok { IfOk result (λ spot. record { object = object.new; spot = spot; sent = effects.new } ≡ goes plan.now object.old) }
+    ensures ok { IfOk result (λ spot.
+        record { object = object.new; spot = spot; sent = effects.new }
+        ≡ goes plan.now object.old) }
     ensures idle { IfOk result (λ spot. MatchOption spot (effects.new ≡ []) (λ _. ⊤)) }
 {
     match object.ready(plan) {
@@ -88,7 +92,8 @@ fn strike_lines(lines: &[FaultLine], set: u64, object: &mut Object)
 
 fn strike_if(on: bool, fault: Fault, object: &mut Object)
     requires { object.old.step ≡ None }
-    ensures struck { object.new ≡ struck_by (flips_among (if on then fault ∷ [] else [])) object.old }
+    ensures struck { object.new
+        ≡ struck_by (flips_among (if on then fault ∷ [] else [])) object.old }
     ensures top { object.new.step ≡ None }
     ensures fits { (p : Plan) → Fits p object.old → Fits p object.new }
 {

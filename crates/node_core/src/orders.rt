@@ -31,7 +31,8 @@ pub(crate) fn obey<M: Placement>(
     body: &mut Option<Live>,
 ) -> Result<Outbox, Memory>
     requires { length (M.place map.now) ≡ elements plan.now }
-    ensures { IfOk result (λ out. record { body = body.new; out = out } ≡ obeyed_as plan.now (M.place map.now) slot own body.old (order_of letter)) }
+    ensures { IfOk result (λ out. record { body = body.new; out = out }
+        ≡ obeyed_as plan.now (M.place map.now) slot own body.old (order_of letter)) }
 {
     match letter {
         Letter::Restore {
@@ -74,7 +75,10 @@ fn restore<M: Placement>(
     body: &mut Option<Live>,
 ) -> Result<Outbox, Memory>
     requires { length (M.place map.now) ≡ elements plan.now }
-    ensures { IfOk result (λ out. record { body = body.new; out = out } ≡ (if stamp.replica == slot.replica then quietly (restored plan.now (M.place map.now) k live body.old) else quietly None)) }
+    ensures { IfOk result (λ out. record { body = body.new; out = out }
+        ≡ (if stamp.replica == slot.replica
+        then quietly (restored plan.now (M.place map.now) k live body.old)
+        else quietly None)) }
 {
     if stamp.replica != slot.replica {
         *body = None;
@@ -114,7 +118,10 @@ fn take<M: Placement>(
     body: &mut Option<Live>,
 ) -> Result<Outbox, Memory>
     requires { length (M.place map.now) ≡ elements plan.now }
-    ensures { IfOk result (λ out. record { body = body.new; out = out } ≡ (if stamp.replica == slot.replica then quietly (taken_up plan.now (M.place map.now) slot.node k live piece) else quietly None)) }
+    ensures { IfOk result (λ out. record { body = body.new; out = out }
+        ≡ (if stamp.replica == slot.replica
+        then quietly (taken_up plan.now (M.place map.now) slot.node k live piece)
+        else quietly None)) }
 {
     if stamp.replica != slot.replica {
         *body = None;
@@ -183,7 +190,10 @@ fn commit(
     live: LineSet,
     body: &mut Option<Live>,
 ) -> Result<Outbox, Memory>
-    ensures { IfOk result (λ out. record { body = body.new; out = out } ≡ (if stamp.replica == slot.replica then quietly (committed k live body.old) else quietly None)) }
+    ensures { IfOk result (λ out. record { body = body.new; out = out }
+        ≡ (if stamp.replica == slot.replica
+        then quietly (committed k live body.old)
+        else quietly None)) }
 {
     if stamp.replica != slot.replica {
         *body = None;
@@ -238,7 +248,10 @@ fn resume(
     stamp: Stamp,
     body: &mut Option<Live>,
 ) -> Result<Outbox, Memory>
-    ensures { IfOk result (λ out. record { body = body.new; out = out } ≡ (if stamp.replica == slot.replica then resumed slot own body.old else quietly None)) }
+    ensures { IfOk result (λ out. record { body = body.new; out = out }
+        ≡ (if stamp.replica == slot.replica
+        then resumed slot own body.old
+        else quietly None)) }
 {
     if stamp.replica != slot.replica {
         *body = None;

@@ -31,7 +31,9 @@ pub(crate) fn pass_all<M: Placement>(
     out: &mut Outbox,
 ) -> Result<(), Memory>
     requires { length (M.place map.now) ≡ elements plan.now }
-    ensures { OnOk result (record { gatherings = gatherings.new.items; out = out.new } ≡ passed plan.now (M.place map.now) roster.now sender sent.now (record { gatherings = gatherings.old.items; out = out.old })) }
+    ensures { OnOk result (record { gatherings = gatherings.new.items; out = out.new }
+        ≡ passed plan.now (M.place map.now) roster.now sender sent.now
+        (record { gatherings = gatherings.old.items; out = out.old })) }
 {
     if sent.is_empty() {
         return Ok(());
@@ -55,7 +57,9 @@ fn pass_each<M: Placement>(
     out: &mut Outbox,
 ) -> Result<(), Memory>
     requires place { length (M.place map.now) ≡ elements }
-    ensures { OnOk result (record { gatherings = gatherings.new.items; out = out.new } ≡ passed plan.now (M.place map.now) roster.now sender sent.now (record { gatherings = gatherings.old.items; out = out.old })) }
+    ensures { OnOk result (record { gatherings = gatherings.new.items; out = out.new }
+        ≡ passed plan.now (M.place map.now) roster.now sender sent.now
+        (record { gatherings = gatherings.old.items; out = out.old })) }
 {
     for message in sent {
         pass_one(
@@ -78,7 +82,9 @@ fn pass_one<M: Placement>(
     out: &mut Outbox,
 ) -> Result<(), Memory>
     requires { length (M.place map.now) ≡ elements }
-    ensures { OnOk result (record { gatherings = gatherings.new.items; out = out.new } ≡ passed_one plan.now (M.place map.now) roster.now sender message.now (record { gatherings = gatherings.old.items; out = out.old })) }
+    ensures { OnOk result (record { gatherings = gatherings.new.items; out = out.new }
+        ≡ passed_one plan.now (M.place map.now) roster.now sender message.now
+        (record { gatherings = gatherings.old.items; out = out.old })) }
 {
     match message {
         Outgoing::Parcel { entry, to, payload } => {
@@ -124,7 +130,9 @@ fn contribute(
     gatherings: &mut Vec<Tally>,
     out: &mut Outbox,
 ) -> Result<(), Memory>
-    ensures { OnOk result (record { gatherings = gatherings.new.items; out = out.new } ≡ contributed_to roster.now sender reduction value (record { gatherings = gatherings.old.items; out = out.old }) (option_copied found.entry)) }
+    ensures { OnOk result (record { gatherings = gatherings.new.items; out = out.new }
+        ≡ contributed_to roster.now sender reduction value
+        (record { gatherings = gatherings.old.items; out = out.old }) (option_copied found.entry)) }
 {
     match found {
         None => Ok(()),
@@ -183,7 +191,8 @@ pub(crate) fn send_totals(
     total: Option<i64>,
     out: &mut Outbox,
 ) -> Result<(), Memory>
-    ensures { OnOk result (out.new ≡ out.old ++ total_sent replica stamp reduction iteration nodes.now total) }
+    ensures { OnOk result (out.new ≡ out.old
+        ++ total_sent replica stamp reduction iteration nodes.now total) }
 {
     match total {
         None => Ok(()),
@@ -200,7 +209,8 @@ fn send_each(
     value: i64,
     out: &mut Outbox,
 ) -> Result<(), Memory>
-    ensures { OnOk result (out.new ≡ out.old ++ map (total_to replica stamp reduction iteration value) nodes.now) }
+    ensures { OnOk result (out.new ≡ out.old
+        ++ map (total_to replica stamp reduction iteration value) nodes.now) }
 {
     for node in nodes {
         let slot = SlotId {

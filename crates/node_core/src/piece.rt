@@ -133,7 +133,8 @@ pub(crate) fn send_packed(
     other: &Option<Held>,
     out: &mut Outbox,
 ) -> Result<(), Memory>
-    ensures { OnOk result (out.new ≡ out.old ++ pack_sends plan.now slot stamp piece.now other.now) }
+    ensures { OnOk result (out.new ≡ out.old
+        ++ pack_sends plan.now slot stamp piece.now other.now) }
 {
     if slot.replica == 1 {
         send_piece(alloc, slot.node, stamp, piece, out)
@@ -150,7 +151,8 @@ fn send_piece(
     piece: &Piece,
     out: &mut Outbox,
 ) -> Result<(), Memory>
-    ensures { OnOk result (out.new ≡ out.old ++ to_slot 0 node (letters.Piece stamp piece.now) ∷ []) }
+    ensures { OnOk result (out.new ≡ out.old ++ to_slot 0 node (letters.Piece stamp piece.now)
+        ∷ []) }
 {
     let buddy = SlotId { replica: 0, node };
     let letter = Letter::Piece {

@@ -178,8 +178,11 @@ fn rank_all<M: Placement>(
     requires place { length (M.place map.now) ≡ elements plan.now }
     requires none { ranks.old.items ≡ [] }
     requires zero { counts.old.items ≡ replicate (length plan.now.arrays) 0 }
-    ensures ranks { OnOk result (ranks.new.items ≡ ranks_after plan.now [] (members (M.place map.now) node)) }
-    ensures counts { OnOk result (counts.new.items ≡ counts_to plan.now (members (M.place map.now) node) (length plan.now.arrays)) }
+    ensures ranks { OnOk result
+        (ranks.new.items ≡ ranks_after plan.now [] (members (M.place map.now) node)) }
+    ensures counts { OnOk result
+        (counts.new.items ≡ counts_to plan.now (members (M.place map.now) node)
+        (length plan.now.arrays)) }
 {
     for e in 0..plan.elements() {
         let here = map.node_of(ElementId(e)) == node;
@@ -199,8 +202,10 @@ fn rank_if(
     requires element { e.0 < elements plan.now }
     requires counts { length counts.old.items ≡ length plan.now.arrays }
     requires few { slice_index_or counts.old.items (place_of plan.now e.0).array 0 ≤ e.0 }
-    ensures ranks { OnOk result (ranks.new.items ≡ (with_ranked plan.now e.0 here ranks.old.items counts.old.items).0) }
-    ensures counts { OnOk result (counts.new.items ≡ (with_ranked plan.now e.0 here ranks.old.items counts.old.items).1) }
+    ensures ranks { OnOk result
+        (ranks.new.items ≡ (with_ranked plan.now e.0 here ranks.old.items counts.old.items).0) }
+    ensures counts { OnOk result
+        (counts.new.items ≡ (with_ranked plan.now e.0 here ranks.old.items counts.old.items).1) }
 {
     if here {
         let array = plan.place(e).array;
@@ -226,7 +231,11 @@ fn all_sharers<M: Placement>(
     node: u16,
 ) -> Result<Vec<Items<u16>>, Memory>
     requires { length (M.place map.now) ≡ elements plan.now }
-    ensures exact { IfOk result (λ all. all.items ≡ (if node == 0 then sharers_to plan.now (M.place map.now) (node_count (M.place map.now)) (length plan.now.arrays) else [])) }
+    ensures exact { IfOk result
+        (λ all. all.items ≡ (if node == 0
+        then sharers_to plan.now (M.place map.now) (node_count (M.place map.now))
+        (length plan.now.arrays)
+        else [])) }
     ensures few { IfOk result (λ all. FewNodes all.items) }
 {
     if node == 0 {
@@ -239,7 +248,9 @@ fn all_sharers<M: Placement>(
 #[tactic(auto, using(crate::proofs::Seats::few_more, crate::proofs::Seats::count_covered, chare_base::proofs::Facts::arrays_few))]
 fn sharers<M: Placement>(alloc: Global, plan: &Plan, map: &M) -> Result<Vec<Items<u16>>, Memory>
     requires { length (M.place map.now) ≡ elements plan.now }
-    ensures exact { IfOk result (λ all. all.items ≡ sharers_to plan.now (M.place map.now) (node_count (M.place map.now)) (length plan.now.arrays)) }
+    ensures exact { IfOk result
+        (λ all. all.items ≡ sharers_to plan.now (M.place map.now) (node_count (M.place map.now))
+        (length plan.now.arrays)) }
     ensures few { IfOk result (λ all. FewNodes all.items) }
 {
     let nodes = map.nodes();

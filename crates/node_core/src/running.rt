@@ -60,7 +60,8 @@ impl Node {
     /// entry; false where the seat is nobody's.
     pub fn awaits_seat(&self, plan: &Plan, iteration: u64, entry: EntryId, seat: usize) -> bool
         requires { Fitted plan.now self.now }
-        ensures { result ≡ awaits_by plan.now iteration entry (slice_get (objects_of self.now.body) seat) }
+        ensures { result ≡ awaits_by plan.now iteration entry
+            (slice_get (objects_of self.now.body) seat) }
     {
         match self.live() {
             None => false,

@@ -95,7 +95,8 @@ pub(crate) fn count_in(
     value: i64,
     all: &mut Vec<Tally>,
 ) -> Result<Option<i64>, Memory>
-    ensures { IfOk result (λ total. record { gatherings = all.new.items; total = total } ≡ tallied how members rank reduction iteration value all.old.items) }
+    ensures { IfOk result (λ total. record { gatherings = all.new.items; total = total }
+        ≡ tallied how members rank reduction iteration value all.old.items) }
 {
     if rank >= members {
         return Ok(None);
@@ -125,7 +126,8 @@ fn find(all: &[Tally], reduction: ReductionId, iteration: u64) -> Option<usize>
 
 fn settle(all: &mut Vec<Tally>, at: usize, rank: u32, value: i64) -> Option<i64>
     requires { at < length all.old.items }
-    ensures { record { gatherings = all.new.items; total = result } ≡ settled_in at rank value all.old.items }
+    ensures { record { gatherings = all.new.items; total = result }
+        ≡ settled_in at rank value all.old.items }
 {
     all[at].give(rank, value);
     let total = all[at].whole();
