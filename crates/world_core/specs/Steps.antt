@@ -4,6 +4,7 @@ use Rattle.chare_base.specs.declared.message.EntryId.{EntryId}
 use Rattle.chare_base.specs.declared.plan.ElementId.{ElementId}
 use Rattle.chare_base.specs.declared.plan.Plan.{Plan}
 use Rattle.fault_script.specs.declared.fault.Fault.{Fault}
+use Rattle.conductor_core.specs.Conductors.{ConductorState}
 use Rattle.iteration_agree.specs.Cuts.{CutState, HasSlot}
 use Rattle.letter_post.specs.declared.letter.Letter.{Letter}
 use Rattle.letter_post.specs.declared.letter.Letter.TheVariants as letters
@@ -22,10 +23,13 @@ use Rattle.world_core.specs.declared.doing.Reach.TheVariants.{Nobody, Message, E
 use Rattle.world_core.specs.declared.doing.Since.{Since}
 use Rattle.world_core.specs.declared.event.Event.{Event}
 use Rattle.world_core.specs.declared.event.Event.TheVariants as events
-use Rattle.world_core.specs.Worlds.{Setting, SlotState, WorldState, back_after, conductor_due, readiness, seats_of, since_after, slot_at, slot_doing, slot_move, stand}
+use Rattle.world_core.specs.Worlds.{Posts, Setting, SlotState, WorldState, back_after, conductor_due, readiness, seats_of, since_after, slot_at, slot_doing, slot_move, stand}
 
 abbrev pub setting : Plan → List Fault → List ℕ → ℕ → Setting
 setting p script place nodes = record { plan = p; script = script; place = place; nodes = nodes }
+
+abbrev pub world_of : Posts → CutState → ConductorState → Bool → WorldState
+world_of posts cut c over = record { posts = posts; cut = cut; conductor = c; over = over }
 
 -- ---- how objects stand, kept as events touch them
 
@@ -74,6 +78,10 @@ abbrev pub marked_by : Plan → ℕ → NodeState → Reach → List Readiness �
 marked_by p top n Nobody seats = seats
 marked_by p top n (Message own to k entry) seats = if own then woken p n k entry (seat_of n.roster to.0) seats else seats
 marked_by p top n Everybody seats = seats_of p top n
+
+-- a node is fit for the plan after a letter
+abbrev pub FitsAfter : Setting → Letter → NodeState → Type 0
+FitsAfter s letter n = Fitted s.plan (node_heard s.plan s.script s.place letter n).node
 
 -- The first letter is a message for an element, and the node heard it; the letter still lies in front.
 pub record ParcelHeard (s : Setting) (box : List Letter) (n : NodeState) (kept : List Readiness) (after : NodeState) (seats : List Readiness) : Type 0 where

@@ -3,6 +3,7 @@ use Rattle.std.specs.Prelude.{ℕ, zero, suc, ◌+◌, ◌-◌, ◌*◌, ◌/◌
 use Rattle.chare_base.specs.declared.plan.ElementId.{ElementId}
 use Rattle.chare_base.specs.declared.options.Options.{Options}
 use Rattle.chare_base.specs.declared.plan.Plan.{Plan}
+use Rattle.chare_base.specs.declared.slots.LineSet.{LineSet}
 use Rattle.chare_base.specs.declared.slots.SlotId.{SlotId}
 use Rattle.fault_script.specs.declared.fault.Fault.{Fault}
 use Rattle.iteration_agree.specs.Cuts.{CutState, agreed, agreement, begun_by, noted, opened, opening_cut, packed_by, quieted, released_by, reported_by, rewound_by, seen_by, slot_of}
@@ -280,13 +281,17 @@ moved_in p x move cut = record {
   out = [];
 }
 
+-- it packs at an iteration, and what it heard of orders is forgotten
+abbrev pub slot_packed : Setting → CutState → ℕ → SlotState → Acted
+slot_packed s cut k x = acted s.plan (packed_by x.node.slot cut) (node_packed s.plan s.script k x.node) x.box x.back Nothing
+
 abbrev pub slot_moved_by : Setting → CutState → SlotState → Option SlotMove → Acted
 slot_moved_by s cut x None = record { slot = x; cut = cut; out = [] }
 slot_moved_by s cut x (Some slot_moves.See) = moved_in s.plan x slot_moves.See cut
 slot_moved_by s cut x (Some (slot_moves.Rewind base)) = moved_in s.plan x (slot_moves.Rewind base) cut
 slot_moved_by s cut x (Some slot_moves.Release) = moved_in s.plan x slot_moves.Release cut
 slot_moved_by s cut x (Some slot_moves.Report) = moved_in s.plan x slot_moves.Report cut
-slot_moved_by s cut x (Some (slot_moves.Pack k)) = acted s.plan (packed_by x.node.slot cut) (node_packed s.plan s.script k x.node) x.box x.back Nothing
+slot_moved_by s cut x (Some (slot_moves.Pack k)) = slot_packed s cut k x
 slot_moved_by s cut x (Some (slot_moves.Begin k)) = moved_in s.plan x (slot_moves.Begin k) cut
 
 abbrev pub slot_move : Plan → CutState → SlotState → Option SlotMove
@@ -529,19 +534,26 @@ picked s (suc n) chooser w = picked_by s w (λ i event. picked s n (goes_on choo
 
 -- ---- the start
 
+-- a slot at the opening, in an agreement and with all lines of this set alive
+abbrev pub opening_slot : Setting → CutState → SlotId → LineSet → SlotState
+opening_slot s cut slot live = renewed s.plan cut (start_state s.plan s.script s.place slot live) [] None Nothing
+
 abbrev pub opening_slot_at : Setting → ℕ → ℕ → SlotState
-opening_slot_at s replica j =
-    renewed s.plan (opening_cut s.nodes) (start_state s.plan s.script s.place (record { replica = replica; node = j }) (record { 0 = all_lines s.script })) [] None Nothing
+opening_slot_at s replica j = opening_slot s (opening_cut s.nodes) (record { replica = replica; node = j }) (record { 0 = all_lines s.script })
 
 -- the first n slots of a replica
 abbrev pub opening_slots : Setting → ℕ → ℕ → List SlotState
 opening_slots s replica zero = []
 opening_slots s replica (suc j) = opening_slots s replica j ++ opening_slot_at s replica j ∷ []
 
--- every element at the opening in both replicas, a quiet agreement, and no letter
+-- every element at the opening in both replicas, and no letter
+abbrev pub opening_posts : Setting → Posts
+opening_posts s = record { slots = opening_slots s 0 s.nodes ++ opening_slots s 1 s.nodes; desk = [] }
+
+-- in a quiet agreement
 unfoldable pub opening_world : Setting → Options → WorldState
 opening_world s o = record {
-  posts = record { slots = opening_slots s 0 s.nodes ++ opening_slots s 1 s.nodes; desk = [] };
+  posts = opening_posts s;
   cut = opening_cut s.nodes;
   conductor = start_conductor s.script o s.plan.iterations;
   over = false;

@@ -1,22 +1,18 @@
 //! The conductor's events: it hears a letter, or makes the move on the agreement that it wants.
 
-ghost use Rattle.std.specs.Prelude.{◌≡◌, ◌≤◌, ◌&&◌, ◌||◌, Bool, List, length, true, OnOk};
+ghost use Rattle.std.specs.Prelude.{◌≡◌, ◌≤◌, ◌&&◌, ◌||◌, Bool, true, OnOk};
 ghost use Rattle.std.specs.List.{AllByRecursion};
-ghost use Rattle.chare_base.specs.Elements.{elements};
 ghost use Rattle.conductor_core.specs.Conductors.{IsOf, conductor_did, wanted};
 ghost use Rattle.conductor_core.specs.Conductors.{sight_of as last_sight};
-ghost use Rattle.fault_script.specs.declared.fault.Fault.{Fault};
 ghost use Rattle.iteration_agree.specs.Cuts.{CutState, HasSlot};
-ghost use Rattle.world_core.specs.Steps.{Renews, setting};
+ghost use Rattle.world_core.specs.Steps.{Renews, world_of};
 ghost use Rattle.world_core.specs.Worlds.{conductor_made, conductor_moved, did_in, in_cut, saw_in, told_by};
 ghost use Rattle.world_core.specs.Worlds.{any_news, has_slot, is_gather, is_news, is_quiet, move_due, names_replica, news_below, same_cap, sight_in, takes_move};
 
-use crate::inbox::Inbox;
-use crate::posts::{deliver, renew_all};
-use crate::slot::Slot;
+use crate::posts::Posts;
+use crate::setting::Setting;
 use chare_base::memory::Memory;
 use chare_base::placement::Placement;
-use chare_base::plan::Plan;
 use chare_base::slots::SlotId;
 use conductor_core::conductor::Conductor;
 use conductor_core::wants::{CutAnswer, CutMove};
@@ -142,7 +138,8 @@ fn same_cap(a: Option<u64>, b: Option<u64>) -> bool
 
 /// Whether the move that the conductor wants is one that the agreement takes, and is due.
 pub fn is_due(cut: &Cut, conductor: &Conductor) -> bool
-    ensures { result ≡ (takes_move cut.now (wanted conductor.now) && move_due cut.now conductor.now (wanted conductor.now)) }
+    ensures { result ≡ (takes_move cut.now (wanted conductor.now)
+        && move_due cut.now conductor.now (wanted conductor.now)) }
 {
     let wanted = conductor.wants();
     if takes_move(cut, wanted) {
@@ -159,18 +156,18 @@ pub fn is_due(cut: &Cut, conductor: &Conductor) -> bool
 /// `Memory`: an allocation was refused; the conductor and the slots are of no further use.
 pub fn hear_at_desk<M: Placement>(
     alloc: Global,
-    plan: &Plan,
-    map: &M,
+    setting: &Setting<'_, M>,
     conductor: &mut Conductor,
-    slots: &mut Vec<Slot>,
-    desk: &mut Inbox,
+    posts: &mut Posts,
 ) -> Result<(), Memory>
-    requires { IsOf (M.count map.now) conductor.old }
-    ensures { (script : List Fault) (cut : CutState) (over : Bool) → OnOk result (record { posts = record { slots = slots.new.items; desk = desk.new }; cut = cut; conductor = conductor.new; over = over } ≡ told_by (setting plan.now script (M.place map.now) (M.count map.now)) (record { posts = record { slots = slots.old.items; desk = desk.old }; cut = cut; conductor = conductor.old; over = over }) desk.old) }
+    requires { IsOf setting.now.nodes conductor.old }
+    ensures { (cut : CutState) (over : Bool)
+        → OnOk result (world_of posts.new cut conductor.new over
+        ≡ told_by setting.now (world_of posts.old cut conductor.old over) posts.old.desk) }
 {
-    if let Some(letter) = desk.take() {
-        let mut out = conductor.hear(alloc, plan, map, letter)?;
-        deliver(map.nodes(), &mut out, slots, desk)?;
+    if let Some(letter) = posts.take_from_desk() {
+        let mut out = conductor.hear(alloc, setting.plan, setting.map, letter)?;
+        posts.deliver(setting.nodes(), &mut out)?;
     }
     Ok(())
 }
@@ -180,21 +177,21 @@ pub fn hear_at_desk<M: Placement>(
 /// `Memory`: an allocation was refused; the conductor and the slots are of no further use.
 pub fn move_conductor<M: Placement>(
     alloc: Global,
-    plan: &Plan,
-    map: &M,
+    setting: &Setting<'_, M>,
     cut: &mut Cut,
     conductor: &mut Conductor,
-    slots: &mut Vec<Slot>,
-    desk: &mut Inbox,
+    posts: &mut Posts,
 ) -> Result<(), Memory>
-    requires place { length (M.place map.now) ≡ elements plan.now }
-    requires nodes { IsOf (M.count map.now) conductor.old }
-    requires renews { AllByRecursion (Renews plan.now cut.old) slots.old.items }
-    ensures { (script : List Fault) (over : Bool) → OnOk result (record { posts = record { slots = slots.new.items; desk = desk.new }; cut = cut.new; conductor = conductor.new; over = over } ≡ conductor_moved (setting plan.now script (M.place map.now) (M.count map.now)) (record { posts = record { slots = slots.old.items; desk = desk.old }; cut = cut.old; conductor = conductor.old; over = over }) (wanted conductor.old)) }
+    requires nodes { IsOf setting.now.nodes conductor.old }
+    requires renews { AllByRecursion (Renews setting.now.plan cut.old) posts.old.slots }
+    ensures { (over : Bool) → OnOk result
+        (world_of posts.new cut.new conductor.new over
+        ≡ conductor_moved setting.now (world_of posts.old cut.old conductor.old over)
+        (wanted conductor.old)) }
 {
     let wanted = conductor.wants();
     if takes_move(cut, wanted) {
-        make_move(alloc, plan, map, wanted, cut, conductor, slots, desk)?;
+        make_move(alloc, setting, wanted, cut, conductor, posts)?;
     }
     Ok(())
 }
@@ -203,53 +200,34 @@ pub fn move_conductor<M: Placement>(
 #[tactic(auto, using(crate::proofs::Renewing::renew_opened, crate::proofs::Renewing::renew_agreed, crate::proofs::Renewing::renew_quieted))]
 fn make_move<M: Placement>(
     alloc: Global,
-    plan: &Plan,
-    map: &M,
+    setting: &Setting<'_, M>,
     wanted: CutMove,
     cut: &mut Cut,
     conductor: &mut Conductor,
-    slots: &mut Vec<Slot>,
-    desk: &mut Inbox,
+    posts: &mut Posts,
 ) -> Result<(), Memory>
-    requires place { length (M.place map.now) ≡ elements plan.now }
-    requires nodes { IsOf (M.count map.now) conductor.old }
-    requires renews { AllByRecursion (Renews plan.now cut.old) slots.old.items }
+    requires nodes { IsOf setting.now.nodes conductor.old }
+    requires renews { AllByRecursion (Renews setting.now.plan cut.old) posts.old.slots }
     requires takes { takes_move cut.old wanted ≡ true }
-    ensures { (script : List Fault) (over : Bool) → OnOk result (record { posts = record { slots = slots.new.items; desk = desk.new }; cut = cut.new; conductor = conductor.new; over = over } ≡ conductor_made (setting plan.now script (M.place map.now) (M.count map.now)) (record { posts = record { slots = slots.old.items; desk = desk.old }; cut = cut.old; conductor = conductor.old; over = over }) wanted) }
+    ensures { (over : Bool) → OnOk result
+        (world_of posts.new cut.new conductor.new over
+        ≡ conductor_made setting.now (world_of posts.old cut.old conductor.old over) wanted) }
 {
     match wanted {
         CutMove::None => (),
-        CutMove::Look { slot } => see(alloc, plan, map, slot, cut, conductor, slots, desk)?,
+        CutMove::Look { slot } => see(alloc, setting, slot, cut, conductor, posts)?,
         CutMove::OpenRound { floor } => {
             cut.open_round(floor);
-            in_round(
-                alloc,
-                plan,
-                map,
-                CutAnswer::Nothing,
-                cut,
-                conductor,
-                slots,
-                desk,
-            )?;
+            in_round(alloc, setting, CutAnswer::Nothing, cut, conductor, posts)?;
         }
-        CutMove::Note { slot } => see(alloc, plan, map, slot, cut, conductor, slots, desk)?,
+        CutMove::Note { slot } => see(alloc, setting, slot, cut, conductor, posts)?,
         CutMove::Agree { taking } => {
             let answer = CutAnswer::Agreed(cut.agree(taking));
-            in_round(alloc, plan, map, answer, cut, conductor, slots, desk)?;
+            in_round(alloc, setting, answer, cut, conductor, posts)?;
         }
         CutMove::Quiet => {
             cut.quiet();
-            in_round(
-                alloc,
-                plan,
-                map,
-                CutAnswer::Nothing,
-                cut,
-                conductor,
-                slots,
-                desk,
-            )?;
+            in_round(alloc, setting, CutAnswer::Nothing, cut, conductor, posts)?;
         }
     }
     Ok(())
@@ -258,68 +236,59 @@ fn make_move<M: Placement>(
 // It sees a slot, whose cap is noted where the round gathers.
 fn see<M: Placement>(
     alloc: Global,
-    plan: &Plan,
-    map: &M,
+    setting: &Setting<'_, M>,
     slot: SlotId,
     cut: &mut Cut,
     conductor: &mut Conductor,
-    slots: &mut Vec<Slot>,
-    desk: &mut Inbox,
+    posts: &mut Posts,
 ) -> Result<(), Memory>
-    requires place { length (M.place map.now) ≡ elements plan.now }
-    requires nodes { IsOf (M.count map.now) conductor.old }
+    requires nodes { IsOf setting.now.nodes conductor.old }
     requires slot { HasSlot cut.old slot }
-    ensures { (script : List Fault) (over : Bool) → OnOk result (record { posts = record { slots = slots.new.items; desk = desk.new }; cut = cut.new; conductor = conductor.new; over = over } ≡ saw_in (setting plan.now script (M.place map.now) (M.count map.now)) slot (record { posts = record { slots = slots.old.items; desk = desk.old }; cut = cut.old; conductor = conductor.old; over = over })) }
+    ensures { (over : Bool) → OnOk result
+        (world_of posts.new cut.new conductor.new over
+        ≡ saw_in setting.now slot (world_of posts.old cut.old conductor.old over)) }
 {
     let sight = cut.note(slot);
-    answered(
-        alloc,
-        plan,
-        map,
-        CutAnswer::Seen(sight),
-        conductor,
-        slots,
-        desk,
-    )?;
+    answered(alloc, setting, CutAnswer::Seen(sight), conductor, posts)?;
     Ok(())
 }
 
 // The round has moved: what each slot would do is worked out again, and the conductor hears the answer to its move.
 fn in_round<M: Placement>(
     alloc: Global,
-    plan: &Plan,
-    map: &M,
+    setting: &Setting<'_, M>,
     answer: CutAnswer,
     cut: &Cut,
     conductor: &mut Conductor,
-    slots: &mut Vec<Slot>,
-    desk: &mut Inbox,
+    posts: &mut Posts,
 ) -> Result<(), Memory>
-    requires place { length (M.place map.now) ≡ elements plan.now }
-    requires nodes { IsOf (M.count map.now) conductor.old }
-    requires renews { AllByRecursion (Renews plan.now cut.now) slots.old.items }
-    ensures { (script : List Fault) (before : CutState) (over : Bool) → OnOk result (record { posts = record { slots = slots.new.items; desk = desk.new }; cut = cut.now; conductor = conductor.new; over = over } ≡ did_in (setting plan.now script (M.place map.now) (M.count map.now)) (conductor_did plan.now (M.place map.now) answer conductor.old) (in_cut plan.now cut.now (record { posts = record { slots = slots.old.items; desk = desk.old }; cut = before; conductor = conductor.old; over = over }))) }
+    requires nodes { IsOf setting.now.nodes conductor.old }
+    requires renews { AllByRecursion (Renews setting.now.plan cut.now) posts.old.slots }
+    ensures { (before : CutState) (over : Bool)
+        → OnOk result (world_of posts.new cut.now conductor.new over
+        ≡ did_in setting.now (conductor_did setting.now.plan setting.now.place answer conductor.old)
+        (in_cut setting.now.plan cut.now (world_of posts.old before conductor.old over))) }
 {
-    renew_all(plan, cut, slots)?;
-    answered(alloc, plan, map, answer, conductor, slots, desk)?;
+    posts.renew(setting, cut)?;
+    answered(alloc, setting, answer, conductor, posts)?;
     Ok(())
 }
 
 // It hears what its move was answered, and its letters go to inboxes.
 fn answered<M: Placement>(
     alloc: Global,
-    plan: &Plan,
-    map: &M,
+    setting: &Setting<'_, M>,
     answer: CutAnswer,
     conductor: &mut Conductor,
-    slots: &mut Vec<Slot>,
-    desk: &mut Inbox,
+    posts: &mut Posts,
 ) -> Result<(), Memory>
-    requires place { length (M.place map.now) ≡ elements plan.now }
-    requires nodes { IsOf (M.count map.now) conductor.old }
-    ensures { (script : List Fault) (cut : CutState) (over : Bool) → OnOk result (record { posts = record { slots = slots.new.items; desk = desk.new }; cut = cut; conductor = conductor.new; over = over } ≡ did_in (setting plan.now script (M.place map.now) (M.count map.now)) (conductor_did plan.now (M.place map.now) answer conductor.old) (record { posts = record { slots = slots.old.items; desk = desk.old }; cut = cut; conductor = conductor.old; over = over })) }
+    requires nodes { IsOf setting.now.nodes conductor.old }
+    ensures { (cut : CutState) (over : Bool)
+        → OnOk result (world_of posts.new cut conductor.new over
+        ≡ did_in setting.now (conductor_did setting.now.plan setting.now.place answer conductor.old)
+        (world_of posts.old cut conductor.old over)) }
 {
-    let mut out = conductor.did(alloc, plan, map, answer)?;
-    deliver(map.nodes(), &mut out, slots, desk)?;
+    let mut out = conductor.did(alloc, setting.plan, setting.map, answer)?;
+    posts.deliver(setting.nodes(), &mut out)?;
     Ok(())
 }

@@ -14,6 +14,7 @@ ghost use Rattle.world_core.specs.Worlds.{actor_at, chosen_of, drawn, goes_on, o
 use crate::event::{Actor, Chooser, Event};
 use crate::fault::DrillFault;
 use crate::laws::{drills_end, sound_worlds_serve, worlds_are_sound};
+use crate::setting::Setting;
 use crate::turns::turns;
 use crate::world::World;
 use chare_base::memory::Memory;
@@ -44,13 +45,23 @@ pub fn drill(
     requires some { 1 ≤ options.now.nodes }
     requires few { options.now.nodes ≤ elements plan.now }
     requires bounded { options.now.nodes ≤ 32 }
-    ensures outcome { IfOk result (λ ending. (drilled plan.now script.now options.now schedule).conductor.outcome ≡ Some ending.outcome) }
-    ensures records { IfOk result (λ ending. ending.records.items ≡ (drilled plan.now script.now options.now schedule).conductor.records) }
-    ensures marks { IfOk result (λ ending. ending.marks ≡ (drilled plan.now script.now options.now schedule).conductor.marks) }
-    ensures last { IfOk result (λ ending. ending.last ≡ (drilled plan.now script.now options.now schedule).conductor.last) }
-    ensures still { result ≡ Err DrillFault.Still → (drilled plan.now script.now options.now schedule).conductor.outcome ≡ None }
+    ensures outcome { IfOk result
+        (λ ending. (drilled plan.now script.now options.now schedule).conductor.outcome
+        ≡ Some ending.outcome) }
+    ensures records { IfOk result
+        (λ ending. ending.records.items
+        ≡ (drilled plan.now script.now options.now schedule).conductor.records) }
+    ensures marks { IfOk result
+        (λ ending. ending.marks ≡ (drilled plan.now script.now options.now
+        schedule).conductor.marks) }
+    ensures last { IfOk result
+        (λ ending. ending.last ≡ (drilled plan.now script.now options.now
+        schedule).conductor.last) }
+    ensures still { result ≡ Err DrillFault.Still
+        → (drilled plan.now script.now options.now schedule).conductor.outcome ≡ None }
     ensures ends { script.now ≡ [] → 1 ≤ options.now.every → result ≢ Err DrillFault.Still }
-    ensures lawful { IfOk result (λ ending. IsEnding plan.now (faults_of script.now) options.now ending) }
+    ensures lawful { IfOk result
+        (λ ending. IsEnding plan.now (faults_of script.now) options.now ending) }
 {
     conductors_tell();
     drills_end();
@@ -79,58 +90,55 @@ pub fn run<M: Placement>(
     requires place { length (M.place map.now) ≡ elements plan.now }
     requires nodes { M.count map.now ≡ options.now.nodes }
     requires bounded { options.now.nodes ≤ 32 }
-    ensures reached { IfOk result (λ w. w ≡ scheduled (setting plan.now (faults_of script.now) (M.place map.now) (M.count map.now)) options.now (capped (turns_bound plan.now (length script.now) (M.count map.now))) schedule) }
-    ensures sound { IfOk result (λ w. Sound (setting plan.now (faults_of script.now) (M.place map.now) (M.count map.now)) options.now w) }
+    ensures reached { IfOk result
+        (λ w. w ≡ scheduled (setting plan.now (faults_of script.now) (M.place map.now)
+        (M.count map.now)) options.now
+        (capped (turns_bound plan.now (length script.now) (M.count map.now))) schedule) }
+    ensures sound { IfOk result
+        (λ w. Sound (setting plan.now (faults_of script.now) (M.place map.now) (M.count map.now))
+        options.now w) }
 {
     worlds_are_sound();
     let nodes = map.nodes();
     let turns = turns(plan, script.len(), nodes);
     let mut world = World::start(alloc, plan, script, options, map)?;
-    go(
-        alloc,
-        plan,
-        script,
-        options,
-        map,
-        opening_chooser(nodes, schedule),
-        turns,
-        &mut world,
-    )?;
+    let setting = Setting::new(plan, script, map);
+    let chooser = opening_chooser(nodes, schedule);
+    go(alloc, &setting, options, chooser, turns, &mut world)?;
     Ok(world)
 }
 
 // Takes the events that a chooser picks, at most `turns` of them.
 fn go<M: Placement>(
     alloc: Global,
-    plan: &Plan,
-    script: &Script,
+    setting: &Setting<'_, M>,
     options: &Options,
-    map: &M,
     chooser: Chooser,
     turns: u64,
     world: &mut World,
 ) -> Result<(), Memory>
-    requires place { length (M.place map.now) ≡ elements plan.now }
-    requires nodes { M.count map.now ≡ options.now.nodes }
+    requires nodes { setting.now.nodes ≡ options.now.nodes }
     requires bounded { options.now.nodes ≤ 32 }
-    requires sound { Sound (setting plan.now (faults_of script.now) (M.place map.now) (M.count map.now)) options.now world.old }
-    ensures reached { OnOk result (let s = setting plan.now (faults_of script.now) (M.place map.now) (M.count map.now) in world.new ≡ reached s world.old (picked s turns chooser world.old)) }
-    ensures sound { OnOk result (Sound (setting plan.now (faults_of script.now) (M.place map.now) (M.count map.now)) options.now world.new) }
+    requires sound { Sound setting.now options.now world.old }
+    ensures reached { OnOk result
+        (world.new ≡ reached setting.now world.old (picked setting.now turns chooser world.old)) }
+    ensures sound { OnOk result (Sound setting.now options.now world.new) }
 {
     worlds_are_sound();
     sound_worlds_serve();
     let _ = options;
     // Its contract says that each node has an element, which every event relies on.
-    let _ = map.nodes();
+    let _ = setting.map.nodes();
     let mut ready = Vec::new(alloc);
     let mut out = Outbox::new(alloc);
     let mut left = turns;
     let mut chooser = chooser;
     while left > 0 {
-        let Some((i, event)) = next_event(plan, map, world, chooser, &mut ready)? else {
+        let next = next_event(setting.plan, setting.map, world, chooser, &mut ready)?;
+        let Some((i, event)) = next else {
             return Ok(());
         };
-        world.happen(alloc, plan, script, map, event, &mut out)?;
+        world.happen(alloc, setting, event, &mut out)?;
         chooser = goes_on(chooser, i);
         left -= 1;
     }
@@ -148,7 +156,10 @@ fn next_event<M: Placement>(
     ready: &mut Vec<usize>,
 ) -> Result<Option<(usize, Event)>, Memory>
     requires { AllByRecursion (Fresh plan.now world.now.cut) world.now.posts.slots }
-    ensures { IfOk result (λ next. next ≡ with_event plan.now (M.count map.now) world.now (chosen_of chooser (ready_from plan.now (M.count map.now) world.now 0 (suc (M.count map.now + M.count map.now))))) }
+    ensures { IfOk result (λ next. next
+        ≡ with_event plan.now (M.count map.now) world.now
+        (chosen_of chooser (ready_from plan.now (M.count map.now) world.now 0
+        (suc (M.count map.now + M.count map.now))))) }
 {
     match chooser {
         Chooser::Round { last } => Ok(next_round(plan, map, world, last)),
@@ -170,7 +181,10 @@ fn next_round<M: Placement>(
     last: usize,
 ) -> Option<(usize, Event)>
     requires { AllByRecursion (Fresh plan.now world.now.cut) world.now.posts.slots }
-    ensures { result ≡ with_event plan.now (M.count map.now) world.now (chosen_of (Chooser.Round last) (ready_from plan.now (M.count map.now) world.now 0 (suc (M.count map.now + M.count map.now)))) }
+    ensures { result ≡ with_event plan.now (M.count map.now) world.now
+        (chosen_of (Chooser.Round last)
+        (ready_from plan.now (M.count map.now) world.now 0
+        (suc (M.count map.now + M.count map.now)))) }
 {
     let actors = 2 * map.nodes() as usize + 1;
     match first_ready(plan, map, world, behind(last, actors), actors) {
@@ -199,7 +213,8 @@ fn first_ready<M: Placement>(
 ) -> Option<(usize, Event)>
     requires fresh { AllByRecursion (Fresh plan.now world.now.cut) world.now.posts.slots }
     requires within { from ≤ actors }
-    ensures { result ≡ with_event plan.now (M.count map.now) world.now (slice_get (ready_from plan.now (M.count map.now) world.now from (actors - from)) 0) }
+    ensures { result ≡ with_event plan.now (M.count map.now) world.now
+        (slice_get (ready_from plan.now (M.count map.now) world.now from (actors - from)) 0) }
 {
     let nodes = map.nodes();
     for i in from..actors {
@@ -233,7 +248,9 @@ fn find_ready<M: Placement>(
     ready: &mut Vec<usize>,
 ) -> Result<(), Memory>
     requires { AllByRecursion (Fresh plan.now world.now.cut) world.now.posts.slots }
-    ensures { OnOk result (ready.new.items ≡ ready.old.items ++ ready_from plan.now (M.count map.now) world.now 0 (suc (M.count map.now + M.count map.now))) }
+    ensures { OnOk result (ready.new.items ≡ ready.old.items
+        ++ ready_from plan.now (M.count map.now) world.now 0
+        (suc (M.count map.now + M.count map.now))) }
 {
     let nodes = map.nodes();
     let actors = 2 * nodes as usize + 1;

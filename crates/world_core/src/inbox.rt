@@ -54,7 +54,8 @@ impl Inbox {
 
     /// The first letter, which stays; None exactly where there is none.
     pub fn first(&self) -> Option<&Letter>
-        ensures { MatchOption result (self.now ≡ []) (λ letter. self.now ≡ letter.now ∷ drop 1 self.now) }
+        ensures { MatchOption result (self.now ≡ [])
+            (λ letter. self.now ≡ letter.now ∷ drop 1 self.now) }
     {
         self.letters.front()
     }
@@ -68,7 +69,8 @@ impl Inbox {
 
     /// Takes out the first letter; None exactly where there is none. It takes no memory.
     pub fn take(&mut self) -> Option<Letter>
-        ensures { MatchOption result ((self.old ≡ []) × (self.new ≡ [])) (λ letter. self.old ≡ letter ∷ self.new) }
+        ensures { MatchOption result ((self.old ≡ []) × (self.new ≡ []))
+            (λ letter. self.old ≡ letter ∷ self.new) }
     {
         self.letters.pop_front()
     }

@@ -26,6 +26,7 @@ pub mod laws;
 mod moves;
 mod posts;
 mod seats;
+mod setting;
 mod slot;
 mod turns;
 pub mod world;

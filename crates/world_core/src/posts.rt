@@ -1,52 +1,193 @@
 //! All slots, and the letters that go to them.
 
-ghost use Rattle.std.specs.Prelude.{◌≡◌, ◌≤◌, ◌+◌, ◌*◌, ◌<◌, ◌++◌, ◌∷◌, [], ℕ, Bool, length, map, OnOk, IfOk, IfSome, None, Some, slice_get};
+ghost use Rattle.std.specs.Prelude.{◌≡◌, ◌≤◌, ◌+◌, ◌*◌, ◌<◌, ◌++◌, ◌∷◌, [], Bool, drop, length, map, MatchOption, OnOk, IfOk, IfSome, None, Some, slice_get};
 ghost use Rattle.std.specs.List.{AllByRecursion};
-ghost use Rattle.chare_base.specs.Elements.{elements};
 ghost use Rattle.conductor_core.specs.Conductors.{ConductorState};
 ghost use Rattle.conductor_core.specs.Openings.{all_lines};
-ghost use Rattle.fault_script.specs.Lines.{faults_of};
 ghost use Rattle.iteration_agree.specs.Cuts.{opening_cut};
 ghost use Rattle.world_core.specs.Sound.{Served};
-ghost use Rattle.world_core.specs.Steps.{Fresh, Renews, can_act, setting};
-ghost use Rattle.world_core.specs.Worlds.{again, by_slot, does, event_of, number_of, opening_slots, posted, put_in, slot_at, slot_event};
+ghost use Rattle.world_core.specs.Steps.{Fresh, Renews, can_act, has_letter, world_of};
+ghost use Rattle.world_core.specs.Worlds.{again, by_slot, does, event_of, number_of, opening_posts, opening_slots, posted, put_in, slot_at, slot_event};
 
 use crate::doing::Doing;
 use crate::event::Event;
 use crate::inbox::Inbox;
+use crate::setting::Setting;
 use crate::slot::Slot;
 use chare_base::memory::Memory;
 use chare_base::placement::Placement;
-use chare_base::plan::{ElementId, Plan};
+use chare_base::plan::Plan;
 use chare_base::slots::SlotId;
 use conductor_core::opening::all_lines;
-use fault_script::script::Script;
 use iteration_agree::cut::Cut;
-use letter_post::letter::{BoxId, Sent};
+use letter_post::letter::{BoxId, Letter, Sent};
 use letter_post::outbox::Outbox;
 use std::alloc::Global;
+use std::marker::Model;
 
-/// Appends the slots of a replica at the opening.
-///
-/// `Memory`: an allocation was refused; some slots are missing.
-pub fn start_slots<M: Placement>(
+/// The slots of both replicas, replica 0's first, and the conductor's inbox. Contracts see a `Posts` of `specs/Worlds`.
+#[derive(Drop)]
+pub struct Posts {
+    slots: Vec<Slot>,
+    desk: Inbox,
+}
+
+impl Model for Posts {
+    ghost use Rattle.world_core.specs.Worlds.{Posts};
+
+    ghost Value = { Posts };
+
+    ghost view = { λ p. record { slots = p.slots.items; desk = p.desk } };
+}
+
+impl Posts {
+    /// All slots at the opening, and no letter.
+    ///
+    /// `Memory`: an allocation was refused.
+    pub fn start<M: Placement>(
+        alloc: Global,
+        setting: &Setting<'_, M>,
+        cut: &Cut,
+    ) -> Result<Posts, Memory>
+        requires { cut.now ≡ opening_cut setting.now.nodes }
+        ensures { IfOk result (λ posts. posts ≡ opening_posts setting.now) }
+    {
+        let mut slots = Vec::new(alloc);
+        start_slots(alloc, setting, 0, cut, &mut slots)?;
+        start_slots(alloc, setting, 1, cut, &mut slots)?;
+        Ok(Posts {
+            slots,
+            desk: Inbox::new(alloc),
+        })
+    }
+
+    /// Whether the conductor has a letter.
+    pub fn desk_has_letter(&self) -> bool
+        ensures { result ≡ has_letter self.now.desk }
+    {
+        self.desk.has_letter()
+    }
+
+    /// Takes out the conductor's first letter; None exactly where there is none. It takes no memory.
+    pub fn take_from_desk(&mut self) -> Option<Letter>
+        ensures letter { MatchOption result (self.old.desk ≡ [])
+            (λ letter. self.old.desk ≡ letter ∷ self.new.desk) }
+        ensures left { self.new ≡ record self.old { desk = drop 1 self.old.desk } }
+    {
+        self.desk.take()
+    }
+
+    // Puts a letter at the back of its inbox.
+    fn put(&mut self, nodes: u16, sent: Sent) -> Result<(), Memory>
+        ensures { OnOk result (self.new ≡ put_in nodes sent.to sent.letter self.old) }
+    {
+        match sent.to {
+            BoxId::Slot(slot) => {
+                if let Some(i) = find(nodes, self.slots.as_slice(), slot) {
+                    self.slots[i].put(sent.letter)?;
+                }
+                Ok(())
+            }
+            BoxId::Conductor => self.desk.push(sent.letter),
+        }
+    }
+
+    /// Puts all letters that were sent at the backs of their inboxes, in the order in which they were sent, and leaves
+    /// the outbox empty. A letter to no slot is dropped.
+    ///
+    /// `Memory`: an allocation was refused; some letters are lost.
+    pub fn deliver(&mut self, nodes: u16, out: &mut Outbox) -> Result<(), Memory>
+        ensures posted { OnOk result (self.new ≡ posted nodes out.old self.old) }
+        ensures empty { OnOk result (out.new ≡ []) }
+    {
+        while let Some(sent) = out.take() {
+            self.put(nodes, sent)?;
+        }
+        Ok(())
+    }
+
+    /// A slot hears, moves or runs an element, and what it sends goes to inboxes. The outbox is empty before and after:
+    /// it is lent so that its memory is used again.
+    ///
+    /// `Memory`: an allocation was refused; the slots are of no further use.
+    pub fn act<M: Placement>(
+        &mut self,
+        alloc: Global,
+        setting: &Setting<'_, M>,
+        slot: SlotId,
+        doing: Doing,
+        cut: &mut Cut,
+        out: &mut Outbox,
+    ) -> Result<(), Memory>
+        requires empty { out.old ≡ [] }
+        requires served { AllByRecursion (Served setting.now cut.old) self.old.slots }
+        ensures empty { OnOk result (out.new ≡ []) }
+        ensures acted { (c : ConductorState) (over : Bool)
+            → OnOk result (world_of self.new cut.new c over
+            ≡ by_slot setting.now slot (world_of self.old cut.old c over)
+            (does setting.now cut.old doing) (slot_at setting.now.nodes self.old.slots slot)) }
+    {
+        let nodes = setting.nodes();
+        if let Some(i) = find(nodes, self.slots.as_slice(), slot) {
+            self.slots[i].act(alloc, setting, doing, cut, out)?;
+            self.deliver(nodes, out)?;
+        }
+        Ok(())
+    }
+
+    /// What every slot would do is worked out again, after the agreement moved.
+    ///
+    /// `Memory`: an allocation was refused; the slots are of no further use.
+    pub fn renew<M: Placement>(&mut self, setting: &Setting<'_, M>, cut: &Cut) -> Result<(), Memory>
+        requires { AllByRecursion (Renews setting.now.plan cut.now) self.old.slots }
+        ensures { OnOk result (self.new
+            ≡ record self.old { slots = map (again setting.now.plan cut.now) self.old.slots }) }
+    {
+        renew_all(setting.plan, cut, &mut self.slots)
+    }
+
+    /// The event that a slot would make.
+    pub fn event(&self, plan: &Plan, nodes: u16, cut: &Cut, slot: SlotId) -> Option<Event>
+        requires { AllByRecursion (Fresh plan.now cut.now) self.now.slots }
+        ensures { result ≡ slot_event plan.now cut.now slot (slot_at nodes self.now.slots slot) }
+    {
+        let _ = plan;
+        let _ = cut;
+        match find(nodes, self.slots.as_slice(), slot) {
+            Some(i) => event_of(slot, self.slots[i].doing()),
+            None => None,
+        }
+    }
+
+    /// Whether an event of a slot can happen in a run that goes on.
+    pub fn can_act(&self, plan: &Plan, nodes: u16, cut: &Cut, slot: SlotId, doing: Doing) -> bool
+        requires { AllByRecursion (Fresh plan.now cut.now) self.now.slots }
+        ensures { result ≡ can_act plan.now cut.now doing (slot_at nodes self.now.slots slot) }
+    {
+        match find(nodes, self.slots.as_slice(), slot) {
+            Some(i) => slot_can(plan, cut, &self.slots[i], doing),
+            None => false,
+        }
+    }
+}
+
+// Appends the slots of a replica at the opening.
+fn start_slots<M: Placement>(
     alloc: Global,
-    plan: &Plan,
-    script: &Script,
-    map: &M,
+    setting: &Setting<'_, M>,
     replica: u8,
     cut: &Cut,
     slots: &mut Vec<Slot>,
 ) -> Result<(), Memory>
-    requires place { length (M.place map.now) ≡ elements plan.now }
-    requires cut { cut.now ≡ opening_cut (M.count map.now) }
+    requires cut { cut.now ≡ opening_cut setting.now.nodes }
     requires replica { replica ≤ 1 }
-    ensures { OnOk result (slots.new.items ≡ slots.old.items ++ opening_slots (setting plan.now (faults_of script.now) (M.place map.now) (M.count map.now)) replica (M.count map.now)) }
+    ensures { OnOk result (slots.new.items ≡ slots.old.items
+        ++ opening_slots setting.now replica setting.now.nodes) }
 {
-    let live = all_lines(script);
-    for node in 0..map.nodes() {
+    let live = all_lines(setting.script);
+    for node in 0..setting.nodes() {
         let slot = SlotId { replica, node };
-        slots.push(Slot::start(alloc, plan, script, map, slot, live, cut)?)?;
+        slots.push(Slot::start(alloc, setting, slot, live, cut)?)?;
     }
     Ok(())
 }
@@ -74,74 +215,8 @@ fn find(nodes: u16, slots: &[Slot], slot: SlotId) -> Option<usize>
     None
 }
 
-// Puts a letter at the back of its inbox.
-fn put_in(nodes: u16, sent: Sent, slots: &mut Vec<Slot>, desk: &mut Inbox) -> Result<(), Memory>
-    ensures { OnOk result (record { slots = slots.new.items; desk = desk.new } ≡ put_in nodes sent.to sent.letter (record { slots = slots.old.items; desk = desk.old })) }
-{
-    match sent.to {
-        BoxId::Slot(slot) => {
-            if let Some(i) = find(nodes, slots.as_slice(), slot) {
-                slots[i].put(sent.letter)?;
-            }
-            Ok(())
-        }
-        BoxId::Conductor => desk.push(sent.letter),
-    }
-}
-
-/// Puts all letters that were sent at the backs of their inboxes, in the order in which they were sent, and leaves the
-/// outbox empty. A letter to no slot is dropped.
-///
-/// `Memory`: an allocation was refused; some letters are lost.
-pub fn deliver(
-    nodes: u16,
-    out: &mut Outbox,
-    slots: &mut Vec<Slot>,
-    desk: &mut Inbox,
-) -> Result<(), Memory>
-    ensures posted { OnOk result (record { slots = slots.new.items; desk = desk.new } ≡ posted nodes out.old (record { slots = slots.old.items; desk = desk.old })) }
-    ensures empty { OnOk result (out.new ≡ []) }
-{
-    while let Some(sent) = out.take() {
-        put_in(nodes, sent, slots, desk)?;
-    }
-    Ok(())
-}
-
-/// A slot hears, moves or runs an element, and what it sends goes to inboxes. The outbox is empty before and after: it is
-/// lent so that its memory is used again.
-///
-/// `Memory`: an allocation was refused; the slots are of no further use.
-pub fn act_at<M: Placement>(
-    alloc: Global,
-    plan: &Plan,
-    script: &Script,
-    map: &M,
-    slot: SlotId,
-    doing: Doing,
-    cut: &mut Cut,
-    slots: &mut Vec<Slot>,
-    desk: &mut Inbox,
-    out: &mut Outbox,
-) -> Result<(), Memory>
-    requires place { length (M.place map.now) ≡ elements plan.now }
-    requires empty { out.old ≡ [] }
-    requires served { AllByRecursion (Served (setting plan.now (faults_of script.now) (M.place map.now) (M.count map.now)) cut.old) slots.old.items }
-    ensures empty { OnOk result (out.new ≡ []) }
-    ensures acted { (c : ConductorState) (over : Bool) → OnOk result (record { posts = record { slots = slots.new.items; desk = desk.new }; cut = cut.new; conductor = c; over = over } ≡ by_slot (setting plan.now (faults_of script.now) (M.place map.now) (M.count map.now)) slot (record { posts = record { slots = slots.old.items; desk = desk.old }; cut = cut.old; conductor = c; over = over }) (does (setting plan.now (faults_of script.now) (M.place map.now) (M.count map.now)) cut.old doing) (slot_at (M.count map.now) slots.old.items slot)) }
-{
-    let nodes = map.nodes();
-    if let Some(i) = find(nodes, slots.as_slice(), slot) {
-        slots[i].act(alloc, plan, script, map, doing, cut, out)?;
-        deliver(nodes, out, slots, desk)?;
-    }
-    Ok(())
-}
-
-/// What every slot would do is worked out again, after the agreement moved.
-///
-/// `Memory`: an allocation was refused; the slots are of no further use.
-pub fn renew_all(plan: &Plan, cut: &Cut, slots: &mut Vec<Slot>) -> Result<(), Memory>
+// What every slot would do is worked out again.
+fn renew_all(plan: &Plan, cut: &Cut, slots: &mut Vec<Slot>) -> Result<(), Memory>
     requires { AllByRecursion (Renews plan.now cut.now) slots.old.items }
     ensures { OnOk result (slots.new.items ≡ map (again plan.now cut.now) slots.old.items) }
 {
@@ -149,19 +224,6 @@ pub fn renew_all(plan: &Plan, cut: &Cut, slots: &mut Vec<Slot>) -> Result<(), Me
         slots[i].renew(plan, cut)?;
     }
     Ok(())
-}
-
-/// The event that a slot would make.
-pub fn slot_event(plan: &Plan, nodes: u16, cut: &Cut, slots: &[Slot], slot: SlotId) -> Option<Event>
-    requires { AllByRecursion (Fresh plan.now cut.now) slots.now }
-    ensures { result ≡ slot_event plan.now cut.now slot (slot_at nodes slots.now slot) }
-{
-    let _ = plan;
-    let _ = cut;
-    match find(nodes, slots, slot) {
-        Some(i) => event_of(slot, slots[i].doing()),
-        None => None,
-    }
 }
 
 fn event_of(slot: SlotId, doing: Option<Doing>) -> Option<Event>
@@ -172,24 +234,6 @@ fn event_of(slot: SlotId, doing: Option<Doing>) -> Option<Event>
         Some(Doing::Hear) => Some(Event::Hear { slot }),
         Some(Doing::Move) => Some(Event::Move { slot }),
         Some(Doing::Run(element)) => Some(Event::Run { slot, element }),
-    }
-}
-
-/// Whether an event of a slot can happen in a run that goes on.
-pub fn can_act(
-    plan: &Plan,
-    nodes: u16,
-    cut: &Cut,
-    slots: &[Slot],
-    slot: SlotId,
-    doing: Doing,
-) -> bool
-    requires { AllByRecursion (Fresh plan.now cut.now) slots.now }
-    ensures { result ≡ can_act plan.now cut.now doing (slot_at nodes slots.now slot) }
-{
-    match find(nodes, slots, slot) {
-        Some(i) => slot_can(plan, cut, &slots[i], doing),
-        None => false,
     }
 }
 

@@ -307,7 +307,8 @@ pub fn wake(
     seats: &mut SeatStates,
 )
     requires { Fitted plan.now node.now }
-    ensures { seats.new ≡ woken plan.now node.now iteration entry (seat_of node.now.roster to.0) seats.old }
+    ensures { seats.new ≡ woken plan.now node.now iteration entry (seat_of node.now.roster to.0)
+        seats.old }
 {
     if let Some(seat) = node.seat(to) {
         let seat = seat as usize;
@@ -342,7 +343,9 @@ fn readiness_at(plan: &Plan, top: u64, node: &Node, seat: usize) -> Readiness
 
 // Between two iterations, `done` of which are completed.
 fn between(plan: &Plan, top: u64, done: u64) -> Readiness
-    ensures { result ≡ (if nat_lt done plan.now.iterations && nat_lt done top then Readiness.Behind else (if done == top then Readiness.Level else Readiness.Past)) }
+    ensures { result ≡ (if nat_lt done plan.now.iterations
+        && nat_lt done top then Readiness.Behind
+        else (if done == top then Readiness.Level else Readiness.Past)) }
 {
     if done < plan.iterations() && done < top {
         Readiness::Behind
@@ -354,7 +357,8 @@ fn between(plan: &Plan, top: u64, done: u64) -> Readiness
 }
 
 fn inside(can_run: bool, there: bool) -> Readiness
-    ensures { result ≡ (if there then (if can_run then Readiness.Ready else Readiness.Awaits) else Readiness.Past) }
+    ensures { result ≡ (if there then (if can_run then Readiness.Ready else Readiness.Awaits)
+        else Readiness.Past) }
 {
     if !there {
         Readiness::Past

@@ -1,28 +1,24 @@
 //! A slot with its inbox.
 
 ghost use Rattle.std.specs.Prelude.{◌≡◌, ◌==◌, ◌&&◌, ◌∷◌, [], List, length, true, false, Ok, OnOk, IfOk, Some, None};
-ghost use Rattle.chare_base.specs.Elements.{elements};
-ghost use Rattle.fault_script.specs.Lines.{faults_of};
 ghost use Rattle.iteration_agree.specs.Cuts.{HasSlot, packed_by, slot_of};
 ghost use Rattle.letter_post.specs.declared.letter.Letter.{Letter};
-ghost use Rattle.node_core.specs.Keeps.{Fitted};
-ghost use Rattle.node_core.specs.Nodes.{first_running, node_heard, node_packed};
-ghost use Rattle.node_core.specs.Starts.{start_state};
+ghost use Rattle.node_core.specs.Nodes.{first_running};
 ghost use Rattle.world_core.specs.declared.doing.Since.TheVariants.{Nothing};
 ghost use Rattle.world_core.specs.declared.doing.SlotMove.TheVariants.{Pack};
 ghost use Rattle.world_core.specs.Sound.{Served};
-ghost use Rattle.world_core.specs.Steps.{Fresh, ParcelHeard, Renews, can_hear, can_run_on, setting};
-ghost use Rattle.world_core.specs.Worlds.{MayMove, acted, back_by, run_due, shifted, with_back, again, back_after, does, doing_of, idle_doing, moved_in, ordered_after, renewed, resumed_after, seats_of, since_after, slot_heard, slot_move, slot_moved, slot_moved_by, slot_put, slot_ran, stand};
+ghost use Rattle.world_core.specs.Steps.{FitsAfter, Fresh, ParcelHeard, Renews, can_hear, can_run_on};
+ghost use Rattle.world_core.specs.Worlds.{MayMove, back_by, run_due, shifted, with_back, again, back_after, does, doing_of, idle_doing, moved_in, opening_slot, ordered_after, resumed_after, seats_of, since_after, slot_heard, slot_move, slot_moved, slot_moved_by, slot_packed, slot_put, slot_ran, stand};
 
 use crate::doing::{Doing, Since, SlotMove};
 use crate::inbox::Inbox;
 use crate::moves::move_of;
 use crate::seats::{SeatStates, mark, mark_by, reach_of, start_seats, wake};
+use crate::setting::Setting;
 use chare_base::memory::Memory;
 use chare_base::placement::Placement;
 use chare_base::plan::{ElementId, Plan};
 use chare_base::slots::{LineSet, SlotId};
-use fault_script::script::Script;
 use iteration_agree::cut::Cut;
 use iteration_agree::round::{Round, Standing};
 use letter_post::letter::Letter;
@@ -58,19 +54,17 @@ impl Slot {
     /// `Memory`: an allocation was refused.
     pub fn start<M: Placement>(
         alloc: Global,
-        plan: &Plan,
-        script: &Script,
-        map: &M,
+        setting: &Setting<'_, M>,
         slot: SlotId,
         live: LineSet,
         cut: &Cut,
     ) -> Result<Slot, Memory>
-        requires place { length (M.place map.now) ≡ elements plan.now }
         requires slot { HasSlot cut.now slot }
-        ensures { IfOk result (λ x. x ≡ renewed plan.now cut.now (start_state plan.now (faults_of script.now) (M.place map.now) slot live) [] None Nothing) }
+        ensures { IfOk result (λ x. x ≡ opening_slot setting.now cut.now slot live) }
     {
         nodes_keep();
-        let node = Node::start(alloc, plan, script, map, slot, live)?;
+        let plan = setting.plan;
+        let node = Node::start(alloc, plan, setting.script, setting.map, slot, live)?;
         let standing = cut.standing(slot);
         let mut seats = SeatStates::new(alloc);
         start_seats(plan, standing.top, &node, &mut seats)?;
@@ -102,7 +96,8 @@ impl Slot {
 
     /// Whether this is its name.
     pub fn is(&self, slot: SlotId) -> bool
-        ensures { result ≡ (self.now.node.slot.replica == slot.replica && self.now.node.slot.node == slot.node) }
+        ensures { result ≡ (self.now.node.slot.replica == slot.replica && self.now.node.slot.node
+            == slot.node) }
     {
         let own = self.node.slot();
         own.replica == slot.replica && own.node == slot.node
@@ -188,7 +183,8 @@ fn doing_of(
 ) -> Option<Doing>
     requires seats { seats.old ≡ seats_of plan.now standing.now.top node.now }
     requires roster { node.now.roster.iterations ≡ plan.now.iterations }
-    ensures doing { result ≡ doing_of plan.now round.now standing.now node.now inbox.now back since }
+    ensures doing { result ≡ doing_of plan.now round.now standing.now node.now inbox.now back
+        since }
     ensures stays { seats.new ≡ seats.old }
 {
     if inbox.has_letter() {
@@ -265,22 +261,20 @@ impl Slot {
     pub fn act<M: Placement>(
         &mut self,
         alloc: Global,
-        plan: &Plan,
-        script: &Script,
-        map: &M,
+        setting: &Setting<'_, M>,
         doing: Doing,
         cut: &mut Cut,
         out: &mut Outbox,
     ) -> Result<(), Memory>
-        requires place { length (M.place map.now) ≡ elements plan.now }
-        requires served { Served (setting plan.now (faults_of script.now) (M.place map.now) (M.count map.now)) cut.old self.old }
+        requires served { Served setting.now cut.old self.old }
         requires empty { out.old ≡ [] }
-        ensures { OnOk result (record { slot = self.new; cut = cut.new; out = out.new } ≡ does (setting plan.now (faults_of script.now) (M.place map.now) (M.count map.now)) cut.old doing self.old) }
+        ensures { OnOk result (record { slot = self.new; cut = cut.new; out = out.new }
+            ≡ does setting.now cut.old doing self.old) }
     {
         match doing {
-            Doing::Hear => self.hear(alloc, plan, script, map, cut, out),
-            Doing::Move => self.make_move(alloc, plan, script, map, cut, out),
-            Doing::Run(e) => self.run(alloc, plan, script, map, e, cut, out),
+            Doing::Hear => self.hear(alloc, setting, cut, out),
+            Doing::Move => self.make_move(alloc, setting, cut, out),
+            Doing::Run(e) => self.run(alloc, setting, e, cut, out),
         }
     }
 
@@ -288,26 +282,26 @@ impl Slot {
     fn run<M: Placement>(
         &mut self,
         alloc: Global,
-        plan: &Plan,
-        script: &Script,
-        map: &M,
+        setting: &Setting<'_, M>,
         e: ElementId,
         cut: &Cut,
         out: &mut Outbox,
     ) -> Result<(), Memory>
-        requires place { length (M.place map.now) ≡ elements plan.now }
-        requires served { Served (setting plan.now (faults_of script.now) (M.place map.now) (M.count map.now)) cut.now self.old }
+        requires served { Served setting.now cut.now self.old }
         requires empty { out.old ≡ [] }
-        ensures { OnOk result (record { slot = self.new; cut = cut.now; out = out.new } ≡ slot_ran (setting plan.now (faults_of script.now) (M.place map.now) (M.count map.now)) cut.now e self.old) }
+        ensures { OnOk result (record { slot = self.new; cut = cut.now; out = out.new }
+            ≡ slot_ran setting.now cut.now e self.old) }
     {
         nodes_keep();
         if self.back.is_some() {
             return Ok(());
         }
         let standing = cut.standing(self.node.slot());
+        let top = standing.top;
+        let plan = setting.plan;
         self.node
-            .run_into(alloc, plan, script, map, e, standing.top, out)?;
-        mark(plan, standing.top, &self.node, e, &mut self.seats);
+            .run_into(alloc, plan, setting.script, setting.map, e, top, out)?;
+        mark(plan, top, &self.node, e, &mut self.seats);
         self.tell(plan, &cut.round(), &standing);
         Ok(())
     }
@@ -316,56 +310,48 @@ impl Slot {
     fn hear<M: Placement>(
         &mut self,
         alloc: Global,
-        plan: &Plan,
-        script: &Script,
-        map: &M,
+        setting: &Setting<'_, M>,
         cut: &Cut,
         out: &mut Outbox,
     ) -> Result<(), Memory>
-        requires place { length (M.place map.now) ≡ elements plan.now }
-        requires served { Served (setting plan.now (faults_of script.now) (M.place map.now) (M.count map.now)) cut.now self.old }
+        requires served { Served setting.now cut.now self.old }
         requires empty { out.old ≡ [] }
-        ensures { OnOk result (record { slot = self.new; cut = cut.now; out = out.new } ≡ slot_heard (setting plan.now (faults_of script.now) (M.place map.now) (M.count map.now)) cut.now self.old self.old.box) }
+        ensures { OnOk result (record { slot = self.new; cut = cut.now; out = out.new }
+            ≡ slot_heard setting.now cut.now self.old self.old.box) }
     {
         nodes_keep();
-        if hear_parcel(
-            plan,
-            script,
-            map,
-            &self.inbox,
-            &mut self.node,
-            &mut self.seats,
-        )? {
+        if hear_parcel(setting, &self.inbox, &mut self.node, &mut self.seats)? {
             self.inbox.forget_first();
-            self.tell_in(plan, cut);
+            self.tell_in(setting.plan, cut);
             return Ok(());
         }
-        self.hear_letter(alloc, plan, script, map, cut, out)
+        self.hear_letter(alloc, setting, cut, out)
     }
 
     // Hears its first letter, where there is one, whatever it is.
     fn hear_letter<M: Placement>(
         &mut self,
         alloc: Global,
-        plan: &Plan,
-        script: &Script,
-        map: &M,
+        setting: &Setting<'_, M>,
         cut: &Cut,
         out: &mut Outbox,
     ) -> Result<(), Memory>
-        requires place { length (M.place map.now) ≡ elements plan.now }
-        requires served { Served (setting plan.now (faults_of script.now) (M.place map.now) (M.count map.now)) cut.now self.old }
+        requires served { Served setting.now cut.now self.old }
         requires empty { out.old ≡ [] }
-        ensures { OnOk result (record { slot = self.new; cut = cut.now; out = out.new } ≡ slot_heard (setting plan.now (faults_of script.now) (M.place map.now) (M.count map.now)) cut.now self.old self.old.box) }
+        ensures { OnOk result (record { slot = self.new; cut = cut.now; out = out.new }
+            ≡ slot_heard setting.now cut.now self.old self.old.box) }
     {
         nodes_keep();
         match self.inbox.take() {
             Some(letter) => {
+                let plan = setting.plan;
                 let standing = cut.standing(self.node.slot());
                 let reach = reach_of(self.node.stamp(), &letter);
                 self.back = back_after(&letter, self.back);
                 self.since = since_after(&letter, self.since);
-                *out = self.node.hear(alloc, plan, script, map, letter)?;
+                *out = self
+                    .node
+                    .hear(alloc, plan, setting.script, setting.map, letter)?;
                 mark_by(plan, standing.top, &self.node, reach, &mut self.seats)?;
                 self.tell(plan, &cut.round(), &standing);
                 Ok(())
@@ -378,7 +364,10 @@ impl Slot {
     fn tell(&mut self, plan: &Plan, round: &Round, standing: &Standing)
         requires seats { self.old.seats ≡ seats_of plan.now standing.now.top self.old.node }
         requires roster { self.old.node.roster.iterations ≡ plan.now.iterations }
-        ensures { self.new ≡ record { node = self.old.node; box = self.old.box; back = self.old.back; since = self.old.since; seats = self.old.seats; doing = doing_of plan.now round.now standing.now self.old.node self.old.box self.old.back self.old.since } }
+        ensures { self.new ≡ record self.old {
+          doing = doing_of plan.now round.now standing.now self.old.node self.old.box
+              self.old.back self.old.since;
+        } }
     {
         self.doing = doing_of(
             plan,
@@ -395,9 +384,13 @@ impl Slot {
     // The same in the agreement as it stands, of which nothing is asked where a letter waits.
     fn tell_in(&mut self, plan: &Plan, cut: &Cut)
         requires slot { HasSlot cut.now self.old.node.slot }
-        requires seats { self.old.seats ≡ seats_of plan.now (stand cut.now self.old.node.slot).top self.old.node }
+        requires seats { self.old.seats
+            ≡ seats_of plan.now (stand cut.now self.old.node.slot).top self.old.node }
         requires roster { self.old.node.roster.iterations ≡ plan.now.iterations }
-        ensures { self.new ≡ record { node = self.old.node; box = self.old.box; back = self.old.back; since = self.old.since; seats = self.old.seats; doing = doing_of plan.now cut.now.round (stand cut.now self.old.node.slot) self.old.node self.old.box self.old.back self.old.since } }
+        ensures { self.new ≡ record self.old {
+          doing = doing_of plan.now cut.now.round (stand cut.now self.old.node.slot)
+              self.old.node self.old.box self.old.back self.old.since;
+        } }
     {
         if self.inbox.has_letter() {
             self.doing = Some(Doing::Hear);
@@ -411,19 +404,18 @@ impl Slot {
     fn make_move<M: Placement>(
         &mut self,
         alloc: Global,
-        plan: &Plan,
-        script: &Script,
-        map: &M,
+        setting: &Setting<'_, M>,
         cut: &mut Cut,
         out: &mut Outbox,
     ) -> Result<(), Memory>
-        requires served { Served (setting plan.now (faults_of script.now) (M.place map.now) (M.count map.now)) cut.old self.old }
+        requires served { Served setting.now cut.old self.old }
         requires empty { out.old ≡ [] }
-        ensures { OnOk result (record { slot = self.new; cut = cut.new; out = out.new } ≡ slot_moved (setting plan.now (faults_of script.now) (M.place map.now) (M.count map.now)) cut.old self.old) }
+        ensures { OnOk result (record { slot = self.new; cut = cut.new; out = out.new }
+            ≡ slot_moved setting.now cut.old self.old) }
     {
-        match self.due_move(plan, cut) {
+        match self.due_move(setting.plan, cut) {
             None => Ok(()),
-            Some(due) => self.make(alloc, plan, script, map, due, cut, out),
+            Some(due) => self.make(alloc, setting, due, cut, out),
         }
     }
 
@@ -431,25 +423,24 @@ impl Slot {
     fn make<M: Placement>(
         &mut self,
         alloc: Global,
-        plan: &Plan,
-        script: &Script,
-        map: &M,
+        setting: &Setting<'_, M>,
         due: SlotMove,
         cut: &mut Cut,
         out: &mut Outbox,
     ) -> Result<(), Memory>
-        requires served { Served (setting plan.now (faults_of script.now) (M.place map.now) (M.count map.now)) cut.old self.old }
-        requires due { slot_move plan.now cut.old self.old ≡ Some due }
+        requires served { Served setting.now cut.old self.old }
+        requires due { slot_move setting.now.plan cut.old self.old ≡ Some due }
         requires empty { out.old ≡ [] }
-        ensures { OnOk result (record { slot = self.new; cut = cut.new; out = out.new } ≡ slot_moved_by (setting plan.now (faults_of script.now) (M.place map.now) (M.count map.now)) cut.old self.old (Some due)) }
+        ensures { OnOk result (record { slot = self.new; cut = cut.new; out = out.new }
+            ≡ slot_moved_by setting.now cut.old self.old (Some due)) }
     {
         match due {
-            SlotMove::See => self.shift(plan, due, cut),
-            SlotMove::Rewind { .. } => self.shift(plan, due, cut),
-            SlotMove::Release => self.shift(plan, due, cut),
-            SlotMove::Report => self.shift(plan, due, cut),
-            SlotMove::Pack { k } => self.pack(alloc, plan, script, map, k, cut, out),
-            SlotMove::Begin { .. } => self.shift(plan, due, cut),
+            SlotMove::See => self.shift(setting.plan, due, cut),
+            SlotMove::Rewind { .. } => self.shift(setting.plan, due, cut),
+            SlotMove::Release => self.shift(setting.plan, due, cut),
+            SlotMove::Report => self.shift(setting.plan, due, cut),
+            SlotMove::Pack { k } => self.pack(alloc, setting, k, cut, out),
+            SlotMove::Begin { .. } => self.shift(setting.plan, due, cut),
         }
     }
 }
@@ -459,7 +450,8 @@ impl Slot {
     fn shift(&mut self, plan: &Plan, due: SlotMove, cut: &mut Cut) -> Result<(), Memory>
         requires renews { Renews plan.now cut.old self.old }
         requires may { MayMove due (slot_of cut.old self.old.node.slot) }
-        ensures { OnOk result (record { slot = self.new; cut = cut.new; out = [] } ≡ moved_in plan.now self.old due cut.old) }
+        ensures { OnOk result (record { slot = self.new; cut = cut.new; out = [] }
+            ≡ moved_in plan.now self.old due cut.old) }
     {
         self.move_in(due, cut);
         self.renew(plan, cut)
@@ -496,22 +488,21 @@ impl Slot {
     fn pack<M: Placement>(
         &mut self,
         alloc: Global,
-        plan: &Plan,
-        script: &Script,
-        map: &M,
+        setting: &Setting<'_, M>,
         k: u64,
         cut: &mut Cut,
         out: &mut Outbox,
     ) -> Result<(), Memory>
-        requires served { Served (setting plan.now (faults_of script.now) (M.place map.now) (M.count map.now)) cut.old self.old }
-        requires due { slot_move plan.now cut.old self.old ≡ Some (Pack k) }
+        requires served { Served setting.now cut.old self.old }
+        requires due { slot_move setting.now.plan cut.old self.old ≡ Some (Pack k) }
         requires empty { out.old ≡ [] }
-        ensures { OnOk result (record { slot = self.new; cut = cut.new; out = out.new } ≡ acted plan.now (packed_by self.old.node.slot cut.old) (node_packed plan.now (faults_of script.now) k self.old.node) self.old.box self.old.back Nothing) }
+        ensures { OnOk result (record { slot = self.new; cut = cut.new; out = out.new }
+            ≡ slot_packed setting.now cut.old k self.old) }
     {
-        let _ = map;
         nodes_keep();
+        let plan = setting.plan;
         let slot = self.node.slot();
-        *out = self.node.pack(alloc, plan, script, k)?;
+        *out = self.node.pack(alloc, plan, setting.script, k)?;
         cut.pack(slot);
         self.since = Since::Nothing;
         self.renew(plan, cut)
@@ -520,19 +511,17 @@ impl Slot {
 
 // Hears the first letter where that is a message for an element, and answers whether it is. The letter stays.
 fn hear_parcel<M: Placement>(
-    plan: &Plan,
-    script: &Script,
-    map: &M,
+    setting: &Setting<'_, M>,
     inbox: &Inbox,
     node: &mut Node,
     seats: &mut SeatStates,
 ) -> Result<bool, Memory>
-    requires fits { (letter : Letter) (more : List Letter) → inbox.now ≡ letter ∷ more → Fitted plan.now (node_heard plan.now (faults_of script.now) (M.place map.now) letter node.old).node }
-    ensures heard { result ≡ Ok true → ParcelHeard (setting plan.now (faults_of script.now) (M.place map.now) (M.count map.now)) inbox.now node.old seats.old node.new seats.new }
+    requires fits { (letter : Letter) (more : List Letter) → inbox.now ≡ letter ∷ more
+        → FitsAfter setting.now letter node.old }
+    ensures heard { result ≡ Ok true
+        → ParcelHeard setting.now inbox.now node.old seats.old node.new seats.new }
     ensures stays { result ≡ Ok false → (node.new ≡ node.old) × (seats.new ≡ seats.old) }
 {
-    let _ = script;
-    let _ = map;
     match inbox.first() {
         Some(
             Letter::Parcel {
@@ -546,7 +535,7 @@ fn hear_parcel<M: Placement>(
             let own = stamp.is_same(node.stamp());
             node.hear_parcel(*stamp, *entry, *iteration, *to, payload)?;
             if own {
-                wake(plan, node, *to, *iteration, *entry, seats);
+                wake(setting.plan, node, *to, *iteration, *entry, seats);
             }
             Ok(true)
         }

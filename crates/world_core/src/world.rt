@@ -5,7 +5,6 @@ ghost use Rattle.std.specs.List.{AllByRecursion};
 ghost use Rattle.std.specs.Option.{ForSome};
 ghost use Rattle.chare_base.specs.Elements.{elements};
 ghost use Rattle.conductor_core.specs.Conductors.{IsOf, wanted};
-ghost use Rattle.fault_script.specs.declared.fault.Fault.{Fault};
 ghost use Rattle.fault_script.specs.Lines.{faults_of};
 ghost use Rattle.world_core.specs.declared.doing.Doing.TheVariants.{Move};
 ghost use Rattle.world_core.specs.Sound.{Serves};
@@ -16,9 +15,8 @@ use crate::conducting::{hear_at_desk, is_due, move_conductor};
 use crate::doing::Doing;
 use crate::event::{Actor, Event};
 use crate::fault::StepFault;
-use crate::inbox::Inbox;
-use crate::posts::{act_at, can_act, slot_event, start_slots};
-use crate::slot::Slot;
+use crate::posts::Posts;
+use crate::setting::Setting;
 use chare_base::memory::Memory;
 use chare_base::options::Options;
 use chare_base::placement::Placement;
@@ -40,8 +38,7 @@ use std::marker::Model;
 /// `worlds_are_sound` and `sound_worlds_serve`.
 #[derive(Drop)]
 pub struct World {
-    slots: Vec<Slot>,
-    desk: Inbox,
+    posts: Posts,
     cut: Cut,
     conductor: Conductor,
     over: bool,
@@ -55,7 +52,7 @@ impl Model for World {
 
     ghost Value = { WorldState };
 
-    ghost view = { λ w. record { posts = record { slots = w.slots.items; desk = w.desk }; cut = w.cut; conductor = w.conductor; over = w.over } };
+    ghost view = { λ w. record { posts = w.posts; cut = w.cut; conductor = w.conductor; over = w.over } };
 }
 
 impl World {
@@ -73,17 +70,17 @@ impl World {
         requires place { length (M.place map.now) ≡ elements plan.now }
         requires nodes { M.count map.now ≡ options.now.nodes }
         requires few { options.now.nodes ≤ 32 }
-        ensures { IfOk result (λ w. w ≡ opening_world (setting plan.now (faults_of script.now) (M.place map.now) (M.count map.now)) options.now) }
+        ensures { IfOk result (λ w. w
+            ≡ opening_world (setting plan.now (faults_of script.now) (M.place map.now)
+            (M.count map.now)) options.now) }
     {
-        let mut slots = Vec::new(alloc);
+        let setting = Setting::new(plan, script, map);
         let cut = Cut::start(alloc, options.nodes)?;
-        start_slots(alloc, plan, script, map, 0, &cut, &mut slots)?;
-        start_slots(alloc, plan, script, map, 1, &cut, &mut slots)?;
+        let posts = Posts::start(alloc, &setting, &cut)?;
         let conductor = Conductor::start(alloc, plan, script, options)?;
         let due = is_due(&cut, &conductor);
         Ok(World {
-            slots,
-            desk: Inbox::new(alloc),
+            posts,
             cut,
             conductor,
             over: false,
@@ -110,9 +107,7 @@ impl World {
             return None;
         }
         match actor {
-            Actor::Slot(slot) => {
-                slot_event(plan, map.nodes(), &self.cut, self.slots.as_slice(), slot)
-            }
+            Actor::Slot(slot) => { self.posts.event(plan, map.nodes(), &self.cut, slot) }
             Actor::Conductor => self.desk_event(),
         }
     }
@@ -131,30 +126,25 @@ impl World {
             Event::Run { slot, element } => self.can_act(plan, map, slot, Doing::Run(element)),
             Event::Hear { slot } => self.can_act(plan, map, slot, Doing::Hear),
             Event::Move { slot } => self.can_act(plan, map, slot, Doing::Move),
-            Event::ConductorHear => self.desk.has_letter(),
+            Event::ConductorHear => self.posts.desk_has_letter(),
             Event::ConductorMove => self.conductor_due(),
         }
     }
 
     fn can_act<M: Placement>(&self, plan: &Plan, map: &M, slot: SlotId, doing: Doing) -> bool
         requires { AllByRecursion (Fresh plan.now self.now.cut) self.now.posts.slots }
-        ensures { result ≡ can_act plan.now self.now.cut doing (slot_at (M.count map.now) self.now.posts.slots slot) }
+        ensures { result ≡ can_act plan.now self.now.cut doing
+            (slot_at (M.count map.now) self.now.posts.slots slot) }
     {
-        can_act(
-            plan,
-            map.nodes(),
-            &self.cut,
-            self.slots.as_slice(),
-            slot,
-            doing,
-        )
+        self.posts
+            .can_act(plan, map.nodes(), &self.cut, slot, doing)
     }
 
     // The event that the conductor would make.
     fn desk_event(&self) -> Option<Event>
         ensures { result ≡ desk_event self.now self.now.posts.desk }
     {
-        if self.desk.has_letter() {
+        if self.posts.desk_has_letter() {
             return Some(Event::ConductorHear);
         }
         if self.conductor_due() {
@@ -185,18 +175,23 @@ impl World {
         event: Event,
     ) -> Result<(), StepFault>
         requires place { length (M.place map.now) ≡ elements plan.now }
-        requires serves { Serves (setting plan.now (faults_of script.now) (M.place map.now) (M.count map.now)) self.old }
+        requires serves { Serves
+            (setting plan.now (faults_of script.now) (M.place map.now) (M.count map.now)) self.old }
         requires going { self.old.over ≡ false }
-        ensures ok { OnOk result (self.new ≡ happens (setting plan.now (faults_of script.now) (M.place map.now) (M.count map.now)) self.old event) }
-        ensures refused { (result ≡ Err StepFault.NotEnabled) ↔ (is_enabled plan.now (M.count map.now) self.old event ≡ false) }
+        ensures ok { OnOk result
+            (self.new ≡ happens (setting plan.now (faults_of script.now) (M.place map.now)
+            (M.count map.now)) self.old event) }
+        ensures refused { (result ≡ Err StepFault.NotEnabled)
+            ↔ (is_enabled plan.now (M.count map.now) self.old event ≡ false) }
         ensures unchanged { result ≡ Err StepFault.NotEnabled → self.new ≡ self.old }
         ensures over { result ≡ Err StepFault.Memory → self.new.over ≡ true }
     {
         if !self.is_enabled(plan, map, event) {
             return Err(StepFault::NotEnabled);
         }
+        let setting = Setting::new(plan, script, map);
         let mut out = Outbox::new(alloc);
-        match self.happen(alloc, plan, script, map, event, &mut out) {
+        match self.happen(alloc, &setting, event, &mut out) {
             Ok(()) => Ok(()),
             Err(Memory) => {
                 self.over = true;
@@ -210,28 +205,23 @@ impl World {
     pub(crate) fn happen<M: Placement>(
         &mut self,
         alloc: Global,
-        plan: &Plan,
-        script: &Script,
-        map: &M,
+        setting: &Setting<'_, M>,
         event: Event,
         out: &mut Outbox,
     ) -> Result<(), Memory>
-        requires place { length (M.place map.now) ≡ elements plan.now }
-        requires serves { Serves (setting plan.now (faults_of script.now) (M.place map.now) (M.count map.now)) self.old }
+        requires serves { Serves setting.now self.old }
         requires empty { out.old ≡ [] }
-        ensures happens { OnOk result (self.new ≡ happens (setting plan.now (faults_of script.now) (M.place map.now) (M.count map.now)) self.old event) }
+        ensures happens { OnOk result (self.new ≡ happens setting.now self.old event) }
         ensures empty { OnOk result (out.new ≡ []) }
     {
         match event {
             Event::Run { slot, element } => {
-                self.slot_works(alloc, plan, script, map, slot, Doing::Run(element), out)
+                self.slot_works(alloc, setting, slot, Doing::Run(element), out)
             }
-            Event::Hear { slot } => {
-                self.slot_works(alloc, plan, script, map, slot, Doing::Hear, out)
-            }
-            Event::Move { slot } => self.slot_moves(alloc, plan, script, map, slot, out),
-            Event::ConductorHear => self.conductor_hears(alloc, plan, map),
-            Event::ConductorMove => self.conductor_moves(alloc, plan, map),
+            Event::Hear { slot } => self.slot_works(alloc, setting, slot, Doing::Hear, out),
+            Event::Move { slot } => self.slot_moves(alloc, setting, slot, out),
+            Event::ConductorHear => self.conductor_hears(alloc, setting),
+            Event::ConductorMove => self.conductor_moves(alloc, setting),
         }
     }
 
@@ -240,22 +230,21 @@ impl World {
     fn slot_works<M: Placement>(
         &mut self,
         alloc: Global,
-        plan: &Plan,
-        script: &Script,
-        map: &M,
+        setting: &Setting<'_, M>,
         slot: SlotId,
         doing: Doing,
         out: &mut Outbox,
     ) -> Result<(), Memory>
-        requires place { length (M.place map.now) ≡ elements plan.now }
-        requires serves { Serves (setting plan.now (faults_of script.now) (M.place map.now) (M.count map.now)) self.old }
+        requires serves { Serves setting.now self.old }
         requires works { is_work doing ≡ true }
         requires empty { out.old ≡ [] }
-        ensures acted { OnOk result (self.new ≡ by_slot (setting plan.now (faults_of script.now) (M.place map.now) (M.count map.now)) slot self.old (does (setting plan.now (faults_of script.now) (M.place map.now) (M.count map.now)) self.old.cut doing) (slot_at (M.count map.now) self.old.posts.slots slot)) }
+        ensures acted { OnOk result
+            (self.new ≡ by_slot setting.now slot self.old (does setting.now self.old.cut doing)
+            (slot_at setting.now.nodes self.old.posts.slots slot)) }
         ensures empty { OnOk result (out.new ≡ []) }
     {
         let due = self.due;
-        self.slot_acts(alloc, plan, script, map, slot, doing, out)?;
+        self.slot_acts(alloc, setting, slot, doing, out)?;
         self.due = due;
         Ok(())
     }
@@ -264,19 +253,18 @@ impl World {
     fn slot_moves<M: Placement>(
         &mut self,
         alloc: Global,
-        plan: &Plan,
-        script: &Script,
-        map: &M,
+        setting: &Setting<'_, M>,
         slot: SlotId,
         out: &mut Outbox,
     ) -> Result<(), Memory>
-        requires place { length (M.place map.now) ≡ elements plan.now }
-        requires serves { Serves (setting plan.now (faults_of script.now) (M.place map.now) (M.count map.now)) self.old }
+        requires serves { Serves setting.now self.old }
         requires empty { out.old ≡ [] }
-        ensures acted { OnOk result (self.new ≡ by_slot (setting plan.now (faults_of script.now) (M.place map.now) (M.count map.now)) slot self.old (does (setting plan.now (faults_of script.now) (M.place map.now) (M.count map.now)) self.old.cut Move) (slot_at (M.count map.now) self.old.posts.slots slot)) }
+        ensures acted { OnOk result
+            (self.new ≡ by_slot setting.now slot self.old (does setting.now self.old.cut Move)
+            (slot_at setting.now.nodes self.old.posts.slots slot)) }
         ensures empty { OnOk result (out.new ≡ []) }
     {
-        self.slot_acts(alloc, plan, script, map, slot, Doing::Move, out)?;
+        self.slot_acts(alloc, setting, slot, Doing::Move, out)?;
         self.due = Some(is_due(&self.cut, &self.conductor));
         Ok(())
     }
@@ -285,52 +273,33 @@ impl World {
     fn slot_acts<M: Placement>(
         &mut self,
         alloc: Global,
-        plan: &Plan,
-        script: &Script,
-        map: &M,
+        setting: &Setting<'_, M>,
         slot: SlotId,
         doing: Doing,
         out: &mut Outbox,
     ) -> Result<(), Memory>
-        requires place { length (M.place map.now) ≡ elements plan.now }
-        requires serves { Serves (setting plan.now (faults_of script.now) (M.place map.now) (M.count map.now)) self.old }
+        requires serves { Serves setting.now self.old }
         requires empty { out.old ≡ [] }
-        ensures acted { OnOk result (self.new ≡ by_slot (setting plan.now (faults_of script.now) (M.place map.now) (M.count map.now)) slot self.old (does (setting plan.now (faults_of script.now) (M.place map.now) (M.count map.now)) self.old.cut doing) (slot_at (M.count map.now) self.old.posts.slots slot)) }
+        ensures acted { OnOk result
+            (self.new ≡ by_slot setting.now slot self.old (does setting.now self.old.cut doing)
+            (slot_at setting.now.nodes self.old.posts.slots slot)) }
         ensures empty { OnOk result (out.new ≡ []) }
     {
         self.due = None;
-        act_at(
-            alloc,
-            plan,
-            script,
-            map,
-            slot,
-            doing,
-            &mut self.cut,
-            &mut self.slots,
-            &mut self.desk,
-            out,
-        )
+        self.posts
+            .act(alloc, setting, slot, doing, &mut self.cut, out)
     }
 
     fn conductor_hears<M: Placement>(
         &mut self,
         alloc: Global,
-        plan: &Plan,
-        map: &M,
+        setting: &Setting<'_, M>,
     ) -> Result<(), Memory>
-        requires { IsOf (M.count map.now) self.old.conductor }
-        ensures { (script : List Fault) → OnOk result (self.new ≡ told_by (setting plan.now script (M.place map.now) (M.count map.now)) self.old self.old.posts.desk) }
+        requires { IsOf setting.now.nodes self.old.conductor }
+        ensures { OnOk result (self.new ≡ told_by setting.now self.old self.old.posts.desk) }
     {
         self.due = None;
-        hear_at_desk(
-            alloc,
-            plan,
-            map,
-            &mut self.conductor,
-            &mut self.slots,
-            &mut self.desk,
-        )?;
+        hear_at_desk(alloc, setting, &mut self.conductor, &mut self.posts)?;
         self.due = Some(is_due(&self.cut, &self.conductor));
         Ok(())
     }
@@ -338,23 +307,21 @@ impl World {
     fn conductor_moves<M: Placement>(
         &mut self,
         alloc: Global,
-        plan: &Plan,
-        map: &M,
+        setting: &Setting<'_, M>,
     ) -> Result<(), Memory>
-        requires place { length (M.place map.now) ≡ elements plan.now }
-        requires nodes { IsOf (M.count map.now) self.old.conductor }
-        requires renews { AllByRecursion (Renews plan.now self.old.cut) self.old.posts.slots }
-        ensures { (script : List Fault) → OnOk result (self.new ≡ conductor_moved (setting plan.now script (M.place map.now) (M.count map.now)) self.old (wanted self.old.conductor)) }
+        requires nodes { IsOf setting.now.nodes self.old.conductor }
+        requires renews { AllByRecursion (Renews setting.now.plan self.old.cut)
+            self.old.posts.slots }
+        ensures { OnOk result (self.new
+            ≡ conductor_moved setting.now self.old (wanted self.old.conductor)) }
     {
         self.due = None;
         move_conductor(
             alloc,
-            plan,
-            map,
+            setting,
             &mut self.cut,
             &mut self.conductor,
-            &mut self.slots,
-            &mut self.desk,
+            &mut self.posts,
         )?;
         self.due = Some(is_due(&self.cut, &self.conductor));
         Ok(())

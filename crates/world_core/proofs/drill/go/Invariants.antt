@@ -1,13 +1,11 @@
 use Rattle.std.proofs.Common.{◌≡◌, []}
-use Rattle.fault_script.specs.Lines.{faults_of}
 use Rattle.world_core.specs.Sound.{Sound}
-use Rattle.world_core.specs.Steps.{setting}
 use Rattle.world_core.specs.Worlds.{Setting, picked, reached}
 use Rattle.world_core.proofs.drill.go.Given as goal
 
 abbrev pub invariant-loop-left : goal.invariant-loop-left
 invariant-loop-left g l =
-    let s : Setting = setting l.plan (faults_of l.script) (g.M.Placement.place l.map) (g.M.Placement.count l.map) in
+    let s : Setting = l.setting in
     record {
       told : reached s l.world (picked s l.left l.chooser l.world) ≡ reached s l.fn.world (picked s l.fn.turns l.fn.chooser l.fn.world);
       sound : Sound s l.fn.options l.world;

@@ -11,17 +11,17 @@ use Rattle.world_core.proofs.slot.Slot.run.Goals as goal
 
 pub tell-requires-clause-seats : goal.tell-requires-clause-seats
 tell-requires-clause-seats g c =
-    let s : Setting = setting c.args.plan.now (faults_of c.args.script.now) (g.M.Placement.place c.args.map.now) (g.M.Placement.count c.args.map.now) in
+    let s : Setting = setting c.setting.inside.plan.now (faults_of c.setting.inside.script.now) (g.M.Placement.place c.setting.inside.map.now) (g.M.Placement.count c.setting.inside.map.now) in
     let inside : SlotState = record { node = c.self.inside.node; box = c.self.inside.inbox; back = c.self.inside.back; since = c.self.inside.since; seats = c.self.inside.seats; doing = c.self.inside.doing } in
-    let served : Served s c.args.cut.now inside = subst (Served s c.args.cut.now) (sym c.self.view_is) c.requires.served in
+    let served : Served s c.args.cut.now inside = subst (λ (t : Setting). Served t c.args.cut.now inside) (sym c.setting.view_is) (subst (Served c.args.setting.now c.args.cut.now) (sym c.self.view_is) c.requires.served) in
     let at = c.standing-standing.ensures ∙ ap (stand c.args.cut.now) c.slot.ensures in
     ran_seats s c.args.cut.now inside c.args.e c.standing-standing.result c.run_into.new.self (turn_with c.in_ok-run_into.field-0 c.run_into.new.out) c.mark.new.seats at served.fresh.seats c.in_ok-run_into.ensures.ok c.mark.ensures
 
 pub returns : goal.returns
 returns g c =
-    let s : Setting = setting c.args.plan.now (faults_of c.args.script.now) (g.M.Placement.place c.args.map.now) (g.M.Placement.count c.args.map.now) in
+    let s : Setting = setting c.setting.inside.plan.now (faults_of c.setting.inside.script.now) (g.M.Placement.place c.setting.inside.map.now) (g.M.Placement.count c.setting.inside.map.now) in
     let inside : SlotState = record { node = c.self.inside.node; box = c.self.inside.inbox; back = c.self.inside.back; since = c.self.inside.since; seats = c.self.inside.seats; doing = c.self.inside.doing } in
-    let served : Served s c.args.cut.now inside = subst (Served s c.args.cut.now) (sym c.self.view_is) c.requires.served in
+    let served : Served s c.args.cut.now inside = subst (λ (t : Setting). Served t c.args.cut.now inside) (sym c.setting.view_is) (subst (Served c.args.setting.now c.args.cut.now) (sym c.self.view_is) c.requires.served) in
     let at = c.standing-standing.ensures ∙ ap (stand c.args.cut.now) c.slot.ensures in
     let free = not_some inside.back (sym c.is_some.ensures ∙ c.if-is_some.false) in
     let after = ap (λ (a : Answer). a.node) c.in_ok-run_into.ensures.ok ∙ ap (λ (u : Standing). (outcome_of (node_ran s.plan s.script s.place u.top c.args.e.0 inside.node)).node) at in
@@ -29,3 +29,4 @@ returns g c =
     ran_slot s c.args.cut.now inside c.args.e c.standing-standing.result c.run_into.new.self (turn_with c.in_ok-run_into.field-0 c.run_into.new.out) c.mark.new.seats c.round.result c.run_into.new.out c.tell.new.self
     free c.round.ensures.exact at served.fresh.seats c.in_ok-run_into.ensures.ok c.mark.ensures own (c.in_ok-run_into.ensures.sent ∙ sym (ap (λ (a : Answer). out_of a.turn) c.in_ok-run_into.ensures.ok)) c.tell.ensures
     ∙ ap (slot_ran s c.args.cut.now c.args.e) c.self.view_is
+    ∙ ap (λ (t : Setting). slot_ran t c.args.cut.now c.args.e c.args.self.now) c.setting.view_is
