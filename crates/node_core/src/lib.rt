@@ -14,6 +14,7 @@
 //! but an order leaves less to do. The world of a run, `world_core`, stands on this crate.
 #![tactic(auto)]
 
+mod context;
 pub mod laws;
 mod live;
 pub mod loading;

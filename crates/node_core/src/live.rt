@@ -15,6 +15,7 @@ ghost use Rattle.node_core.specs.Nodes.{Body, all_at_of, body_heard, body_packed
 ghost use Rattle.node_core.specs.Rosters.{number_in};
 ghost use Rattle.node_core.specs.Turns.{turned};
 
+use crate::context::{Context, Here};
 use crate::object::{begins, can_run, is_at, take, turn};
 use crate::passing::{pass_all, send_totals};
 use crate::piece::{Held, Loan, is_new, pack_objects, send_compared, send_packed};
@@ -65,35 +66,31 @@ impl Live {
     pub(crate) fn run<M: Placement>(
         &mut self,
         alloc: Global,
-        plan: &Plan,
-        script: &Script,
-        map: &M,
-        slot: SlotId,
-        stamp: Stamp,
-        roster: &Seats,
+        context: &Context<'_, M>,
+        here: &Here<'_>,
         e: ElementId,
         limit: u64,
         effects: &mut Effects,
         out: &mut Outbox,
     ) -> Result<TurnKind, Memory>
-        requires fits { AllByRecursion (Fits plan.now) self.old.objects }
-        requires place { length (M.place map.now) ≡ elements plan.now }
+        requires fits { AllByRecursion (Fits context.now.plan.now) self.old.objects }
         requires empty { out.old ≡ [] }
         ensures told { IfOk result
             (λ kind. record { body = self.new; turn = turn_with kind out.new }
-            ≡ body_ran plan.now (lines_of (faults_of script.now) stamp) (M.place map.now) limit e.0
-            slot stamp roster.now self.old) }
+            ≡ body_ran context.now.plan.now
+            (lines_of (faults_of context.now.script.now) here.now.stamp)
+            (M.place context.now.map.now) limit e.0 here.now.slot here.now.stamp
+            here.now.roster.now self.old) }
         ensures sent { IfOk result (λ kind. out.new ≡ out_of (turn_with kind out.new)) }
     {
         if self.waits {
             return Ok(TurnKind::Awaits);
         }
-        let seat = roster.seat(e);
+        let seat = here.roster.seat(e);
         let objects = &mut self.objects;
         let gatherings = &mut self.gatherings;
         let kind = run_at(
-            alloc, plan, script, map, slot, stamp, roster, seat, limit, objects, gatherings,
-            effects, out,
+            alloc, context, here, seat, limit, objects, gatherings, effects, out,
         )?;
         Ok(kind)
     }
@@ -102,12 +99,8 @@ impl Live {
 // A turn of the object at a seat.
 fn run_at<M: Placement>(
     alloc: Global,
-    plan: &Plan,
-    script: &Script,
-    map: &M,
-    slot: SlotId,
-    stamp: Stamp,
-    roster: &Seats,
+    context: &Context<'_, M>,
+    here: &Here<'_>,
     seat: Option<u32>,
     limit: u64,
     objects: &mut Vec<Object>,
@@ -115,16 +108,17 @@ fn run_at<M: Placement>(
     effects: &mut Effects,
     out: &mut Outbox,
 ) -> Result<TurnKind, Memory>
-    requires fits { AllByRecursion (Fits plan.now) objects.old.items }
-    requires place { length (M.place map.now) ≡ elements plan.now }
+    requires fits { AllByRecursion (Fits context.now.plan.now) objects.old.items }
     requires empty { out.old ≡ [] }
     ensures told { (b : Body) → IfOk result
         (λ kind. record {
           body = with_objects b objects.new.items gatherings.new.items;
           turn = turn_with kind out.new;
         }
-        ≡ body_ran_at plan.now (lines_of (faults_of script.now) stamp) (M.place map.now) limit slot
-        stamp roster.now (with_objects b objects.old.items gatherings.old.items) seat) }
+        ≡ body_ran_at context.now.plan.now
+        (lines_of (faults_of context.now.script.now) here.now.stamp) (M.place context.now.map.now)
+        limit here.now.slot here.now.stamp here.now.roster.now
+        (with_objects b objects.old.items gatherings.old.items) seat) }
     ensures sent { IfOk result (λ kind. out.new ≡ out_of (turn_with kind out.new)) }
 {
     match seat {
@@ -132,8 +126,7 @@ fn run_at<M: Placement>(
         Some(i) => {
             if (i as usize) < objects.len() {
                 run_object(
-                    alloc, plan, script, map, slot, stamp, roster, i, limit, objects, gatherings,
-                    effects, out,
+                    alloc, context, here, i, limit, objects, gatherings, effects, out,
                 )
             } else {
                 Ok(TurnKind::Awaits)
@@ -144,12 +137,8 @@ fn run_at<M: Placement>(
 
 fn run_object<M: Placement>(
     alloc: Global,
-    plan: &Plan,
-    script: &Script,
-    map: &M,
-    slot: SlotId,
-    stamp: Stamp,
-    roster: &Seats,
+    context: &Context<'_, M>,
+    here: &Here<'_>,
     i: u32,
     limit: u64,
     objects: &mut Vec<Object>,
@@ -158,46 +147,49 @@ fn run_object<M: Placement>(
     out: &mut Outbox,
 ) -> Result<TurnKind, Memory>
     requires there { i < length objects.old.items }
-    requires fits { AllByRecursion (Fits plan.now) objects.old.items }
-    requires place { length (M.place map.now) ≡ elements plan.now }
+    requires fits { AllByRecursion (Fits context.now.plan.now) objects.old.items }
     requires empty { out.old ≡ [] }
     ensures told { (b : Body) → IfOk result
         (λ kind. record {
           body = with_objects b objects.new.items gatherings.new.items;
           turn = turn_with kind out.new;
         }
-        ≡ body_ran_by plan.now (lines_of (faults_of script.now) stamp) (M.place map.now) limit slot
-        stamp roster.now (with_objects b objects.old.items gatherings.old.items) i
+        ≡ body_ran_by context.now.plan.now
+        (lines_of (faults_of context.now.script.now) here.now.stamp) (M.place context.now.map.now)
+        limit here.now.slot here.now.stamp here.now.roster.now
+        (with_objects b objects.old.items gatherings.old.items) i
         (slice_get objects.old.items i)) }
     ensures sent { IfOk result (λ kind. out.new ≡ out_of (turn_with kind out.new)) }
 {
     effects.clear();
+    let plan = context.plan;
     let object = &mut objects[i as usize];
     let element = object.element();
     let before = begins(plan.iterations(), object);
-    let sender = sender_of(slot, stamp, roster, i, object);
-    let spot = turn(alloc, plan, script, stamp.lines, limit, object, effects)?;
+    let sender = sender_of(here, i, object);
+    let lines = here.stamp.lines;
+    let spot = turn(alloc, plan, context.script, lines, limit, object, effects)?;
     match spot {
         None => Ok(idle(before)),
         Some(spot) => {
             let sent = effects.as_slice();
-            pass_all(alloc, plan, map, roster, sender, sent, gatherings, out)?;
+            pass_all(alloc, context, here.roster, sender, sent, gatherings, out)?;
             Ok(TurnKind::Ran { element, spot })
         }
     }
 }
 
 // The element of the object with this number, as it sends.
-fn sender_of(slot: SlotId, stamp: Stamp, roster: &Seats, i: u32, object: &Object) -> Sender
-    ensures { (p : Plan) → Fits p object.now → result
-        ≡ sender_of p slot stamp roster.now i object.now }
+fn sender_of(here: &Here<'_>, i: u32, object: &Object) -> Sender
+    ensures { (p : Plan) → Fits p object.now
+        → result ≡ sender_of p here.now.slot here.now.stamp here.now.roster.now i object.now }
 {
     Sender {
-        slot,
-        stamp,
+        slot: here.slot,
+        stamp: here.stamp,
         iteration: object.done(),
         array: object.place().array,
-        rank: roster.rank(i),
+        rank: here.roster.rank(i),
     }
 }
 
@@ -269,68 +261,57 @@ struct Share {
 }
 
 impl Live {
-    // A letter comes.
+    // A letter comes. Orders are obeyed elsewhere, and no other letter is for a node.
     pub(crate) fn hear(
         &mut self,
         alloc: Global,
         plan: &Plan,
         slot: SlotId,
-        stamp: Stamp,
+        own: Stamp,
         roster: &Seats,
         letter: Letter,
     ) -> Result<Outbox, Memory>
         ensures { (script : List Fault) (place : List ℕ)
             → IfOk result (λ out. record { body = self.new; out = out }
-            ≡ body_heard plan.now script place slot stamp roster.now self.old letter) }
+            ≡ body_heard plan.now script place slot own roster.now self.old letter) }
     {
         match letter {
             Letter::Parcel {
-                stamp: sent_under,
+                stamp,
                 entry,
                 iteration,
                 to,
                 payload,
             } => {
-                self.hear_parcel(stamp, roster, sent_under, entry, iteration, to, &payload)?;
+                self.hear_parcel(own, roster, stamp, entry, iteration, to, &payload)?;
                 Ok(Outbox::new(alloc))
             }
             Letter::Partial {
-                stamp: theirs,
+                stamp,
                 reduction,
                 iteration,
                 node,
                 value,
             } => {
-                let own = theirs.is_same(stamp);
                 let share = Share {
                     reduction,
                     iteration,
                     node,
                     value,
                 };
-                self.hear_share(alloc, plan, own, slot.replica, stamp, roster, share)
+                let same = stamp.is_same(own);
+                self.hear_share(alloc, plan, same, slot.replica, own, roster, share)
             }
             Letter::Total {
-                stamp: theirs,
+                stamp,
                 reduction,
                 iteration,
                 value,
-            } => {
-                let own = theirs.is_same(stamp);
-                self.hear_total(alloc, plan, own, iteration, reduction, value)
+            } => self.hear_total(alloc, plan, stamp.is_same(own), iteration, reduction, value),
+            Letter::Piece { stamp, piece } => {
+                self.hear_piece(alloc, plan, own, slot.node, stamp, piece)
             }
-            Letter::Piece {
-                stamp: theirs,
-                piece,
-            } => self.hear_piece(alloc, plan, stamp, slot.node, theirs, piece),
-            Letter::VerdictOf { .. } => Ok(Outbox::new(alloc)),
-            Letter::Lend { .. } => Ok(Outbox::new(alloc)),
-            Letter::Take { .. } => Ok(Outbox::new(alloc)),
-            Letter::Restore { .. } => Ok(Outbox::new(alloc)),
-            Letter::Commit { .. } => Ok(Outbox::new(alloc)),
-            Letter::Resume { .. } => Ok(Outbox::new(alloc)),
-            Letter::Died { .. } => Ok(Outbox::new(alloc)),
-            Letter::Stop => Ok(Outbox::new(alloc)),
+            _ => Ok(Outbox::new(alloc)),
         }
     }
 

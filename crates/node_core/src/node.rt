@@ -13,8 +13,10 @@ ghost use Rattle.letter_post.specs.Orders.{next_order, order_of};
 ghost use Rattle.object_steps.specs.Objects.{Fits};
 ghost use Rattle.node_core.specs.Keeps.{Fitted, FittedBody};
 ghost use Rattle.node_core.specs.Nodes.{all_at, can_run_by, first_running, has_packed, next_begin, node_can_run, node_from, node_heard, node_heard_as, node_heard_by, node_packed, node_packed_by, node_ran, node_ran_by, node_turned, out_of, rests, seated_in, turn_with};
+ghost use Rattle.node_core.specs.Rosters.{Roster};
 ghost use Rattle.node_core.specs.Starts.{flips_replica, replica_flips, start_state, started_if, starts};
 
+use crate::context::{Context, Here};
 use crate::live::{Live, all_at, first_running, idle, next_begin};
 use crate::object::can_run;
 use crate::orders::obey;
@@ -216,8 +218,9 @@ impl Node {
         let roster = &self.roster;
         let body = &mut self.body;
         let effects = &mut self.effects;
+        let context = Context { plan, script, map };
         match run_body(
-            alloc, plan, script, map, self.slot, self.last, roster, e, limit, body, effects, out,
+            alloc, &context, self.slot, self.last, roster, e, limit, body, effects, out,
         ) {
             Ok(kind) => Ok(kind),
             Err(Memory) => {
@@ -365,19 +368,11 @@ impl Node {
         ensures err { OnErr result (self.new.over ≡ true) }
         ensures over { self.old.over ≡ true → IsErr result }
     {
+        let _ = script;
         if self.over {
             return Err(Memory);
         }
-        match pack_body(
-            alloc,
-            plan,
-            script,
-            k,
-            self.slot,
-            self.last,
-            &self.roster,
-            &mut self.body,
-        ) {
+        match pack_body(alloc, plan, k, self.slot, self.last, &mut self.body) {
             Ok(out) => Ok(out),
             Err(Memory) => {
                 self.over = true;
@@ -468,9 +463,7 @@ fn can_run_at(plan: &Plan, limit: u64, objects: &[Object], seat: Option<u32>) ->
 
 fn run_body<M: Placement>(
     alloc: Global,
-    plan: &Plan,
-    script: &Script,
-    map: &M,
+    context: &Context<'_, M>,
     slot: SlotId,
     last: LastOrder,
     roster: &Seats,
@@ -480,24 +473,27 @@ fn run_body<M: Placement>(
     effects: &mut Effects,
     out: &mut Outbox,
 ) -> Result<TurnKind, Memory>
-    requires fits { FittedBody plan.now body.old }
-    requires place { length (M.place map.now) ≡ elements plan.now }
+    requires fits { FittedBody context.now.plan.now body.old }
     requires empty { out.old ≡ [] }
     ensures told { (over : Bool)
         → IfOk result (λ kind. record {
           node = node_from slot last roster.now over body.new;
           turn = turn_with kind out.new;
         }
-        ≡ node_ran_by plan.now (faults_of script.now) (M.place map.now) limit e.0
-        (node_from slot last roster.now over body.old) body.old) }
+        ≡ node_ran_by context.now.plan.now (faults_of context.now.script.now)
+        (M.place context.now.map.now) limit e.0 (node_from slot last roster.now over body.old)
+        body.old) }
     ensures sent { IfOk result (λ kind. out.new ≡ out_of (turn_with kind out.new)) }
 {
     match body {
         None => Ok(TurnKind::Awaits),
         Some(live) => {
-            let kind = live.run(
-                alloc, plan, script, map, slot, last.stamp, roster, e, limit, effects, out,
-            )?;
+            let here = Here {
+                slot,
+                stamp: last.stamp,
+                roster,
+            };
+            let kind = live.run(alloc, context, &here, e, limit, effects, out)?;
             Ok(kind)
         }
     }
@@ -602,21 +598,16 @@ fn take_parcel(
 fn pack_body(
     alloc: Global,
     plan: &Plan,
-    script: &Script,
     k: u64,
     slot: SlotId,
     last: LastOrder,
-    roster: &Seats,
     body: &mut Option<Live>,
 ) -> Result<Outbox, Memory>
     requires { FittedBody plan.now body.old }
-    ensures { (over : Bool) → IfOk result
-        (λ out. record { node = node_from slot last roster.now over body.new; out = out }
-        ≡ node_packed_by plan.now (faults_of script.now) k
-        (node_from slot last roster.now over body.old) body.old) }
+    ensures { (script : List Fault) (roster : Roster) (over : Bool) → IfOk result
+        (λ out. record { node = node_from slot last roster over body.new; out = out }
+        ≡ node_packed_by plan.now script k (node_from slot last roster over body.old) body.old) }
 {
-    let _ = script;
-    let _ = roster;
     match body {
         None => Ok(Outbox::new(alloc)),
         Some(live) => {

@@ -5,6 +5,7 @@ ghost use Rattle.std.specs.Option.{option_copied};
 ghost use Rattle.chare_base.specs.Elements.{elements};
 ghost use Rattle.node_core.specs.Nodes.{contributed_to, node_at, partial_sent, passed, passed_one, total_sent, total_to};
 
+use crate::context::Context;
 use crate::roster::Seats;
 use crate::tallies::{Tally, count_in};
 use crate::turn::Sender;
@@ -22,33 +23,30 @@ use std::alloc::Global;
 // All that an element sent goes out, in its order.
 pub(crate) fn pass_all<M: Placement>(
     alloc: Global,
-    plan: &Plan,
-    map: &M,
+    context: &Context<'_, M>,
     roster: &Seats,
     sender: Sender,
     sent: &[Outgoing],
     gatherings: &mut Vec<Tally>,
     out: &mut Outbox,
 ) -> Result<(), Memory>
-    requires { length (M.place map.now) ≡ elements plan.now }
     ensures { OnOk result (record { gatherings = gatherings.new.items; out = out.new }
-        ≡ passed plan.now (M.place map.now) roster.now sender sent.now
+        ≡ passed context.now.plan.now (M.place context.now.map.now) roster.now sender sent.now
         (record { gatherings = gatherings.old.items; out = out.old })) }
 {
     if sent.is_empty() {
         return Ok(());
     }
     // Which takes a look at each array, so once for all messages.
-    let elements = plan.elements();
+    let elements = context.plan.elements();
     pass_each(
-        alloc, plan, map, elements, roster, sender, sent, gatherings, out,
+        alloc, context, elements, roster, sender, sent, gatherings, out,
     )
 }
 
 fn pass_each<M: Placement>(
     alloc: Global,
-    plan: &Plan,
-    map: &M,
+    context: &Context<'_, M>,
     elements: u32,
     roster: &Seats,
     sender: Sender,
@@ -56,14 +54,14 @@ fn pass_each<M: Placement>(
     gatherings: &mut Vec<Tally>,
     out: &mut Outbox,
 ) -> Result<(), Memory>
-    requires place { length (M.place map.now) ≡ elements }
+    requires { length (M.place context.now.map.now) ≡ elements }
     ensures { OnOk result (record { gatherings = gatherings.new.items; out = out.new }
-        ≡ passed plan.now (M.place map.now) roster.now sender sent.now
+        ≡ passed context.now.plan.now (M.place context.now.map.now) roster.now sender sent.now
         (record { gatherings = gatherings.old.items; out = out.old })) }
 {
     for message in sent {
         pass_one(
-            alloc, plan, map, elements, roster, sender, message, gatherings, out,
+            alloc, context, elements, roster, sender, message, gatherings, out,
         )?;
     }
     Ok(())
@@ -72,8 +70,7 @@ fn pass_each<M: Placement>(
 // A message goes to the slot of its receiver, a contribution is gathered.
 fn pass_one<M: Placement>(
     alloc: Global,
-    plan: &Plan,
-    map: &M,
+    context: &Context<'_, M>,
     elements: u32,
     roster: &Seats,
     sender: Sender,
@@ -81,16 +78,16 @@ fn pass_one<M: Placement>(
     gatherings: &mut Vec<Tally>,
     out: &mut Outbox,
 ) -> Result<(), Memory>
-    requires { length (M.place map.now) ≡ elements }
+    requires { length (M.place context.now.map.now) ≡ elements }
     ensures { OnOk result (record { gatherings = gatherings.new.items; out = out.new }
-        ≡ passed_one plan.now (M.place map.now) roster.now sender message.now
+        ≡ passed_one context.now.plan.now (M.place context.now.map.now) roster.now sender message.now
         (record { gatherings = gatherings.old.items; out = out.old })) }
 {
     match message {
         Outgoing::Parcel { entry, to, payload } => {
             let slot = SlotId {
                 replica: sender.slot.replica,
-                node: node_of(map, elements, *to),
+                node: node_of(context.map, elements, *to),
             };
             let letter = Letter::Parcel {
                 stamp: sender.stamp,
@@ -103,7 +100,7 @@ fn pass_one<M: Placement>(
             Ok(())
         }
         Outgoing::Contribution { reduction, value } => {
-            let found = plan.reductions.get(reduction.0 as usize);
+            let found = context.plan.reductions.get(reduction.0 as usize);
             contribute(
                 alloc, roster, sender, *reduction, *value, found, gatherings, out,
             )

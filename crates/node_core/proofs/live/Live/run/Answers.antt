@@ -17,5 +17,5 @@ returns-clause-told g c =
       loan = c.self.inside.loan;
       waits = c.self.inside.waits;
     } in
-    ran_on c.args.plan.now (lines_of (faults_of c.args.script.now) c.args.stamp) (g.M.Placement.place c.args.map.now) c.args.limit c.args.e.0 c.args.slot c.args.stamp c.args.roster.now inside c.args.self.now
+    ran_on c.args.context.now.plan.now (lines_of (faults_of c.args.context.now.script.now) c.args.here.now.stamp) (g.M.Placement.place c.args.context.now.map.now) c.args.limit c.args.e.0 c.args.here.now.slot c.args.here.now.stamp c.args.here.now.roster.now inside c.args.self.now
     c.seat-seat.result _ c.self.view_is c.if-self.false c.seat-seat.ensures (c.in_ok-kind.ensures.told inside)
